@@ -88,7 +88,7 @@ impl Io<Kept, AllEvents, Told> for Null {
 
     ghost io = { null_io };
 
-    ghost wants = { λ bytes. got_events };
+    ghost wants = { λ opened bytes. got_events };
 
     ghost ready = { MayArm };
 

@@ -34,7 +34,7 @@ use Rattle.qx_resources.specs.declared.tables.Tables.{Tables as AllTables}
 use Rattle.qx_chan.specs.Calls.{call_with}
 use Rattle.qx_chan.specs.inner.Calls.{taken_call}
 use Rattle.qx_chan.specs.inner.Kept.{StandTogether}
-use Rattle.qx_chan.specs.inner.Serving.{caller_of_call, deed_in}
+use Rattle.qx_chan.specs.inner.Serving.{caller_of_call}
 use Rattle.qx_chan.specs.Serving.{Serves, part_in, settled}
 use Rattle.qx_chan.specs.Users.{Users, process_of_user, thread_row}
 use Rattle.qx_chan.specs.declared.call.Call.{Call}
@@ -146,10 +146,10 @@ module _ (thread : Thread) (moment : ℕ) where
 
 -- whether doing a received message may want memory is told by its call
 pub received-wants : (users : Users) (w : AllTables) (k : state.Kept) (thread : Thread) (call : Call) (its : Received users thread call) → k.user ≡ thread.proc.user.0 → (moment : ℕ)
-    → thread_wants_memory (part_in (shown users w.shared w.mounts w.events.events) k) thread.proc.num thread.tid moment ≡ bytes_want_memory call.target.manager (told k w) (meaning its.sent.bytes) (deed_in k w its.process thread call moment its.sent.bytes)
+    → thread_wants_memory (part_in (shown users w.shared w.mounts w.events.events) k) thread.proc.num thread.tid moment ≡ bytes_want_memory (told k w) (context_of its.process (caller_of_call thread call) call.target moment (meaning its.sent.bytes)) (meaning its.sent.bytes)
 received-wants users w k thread call its of moment =
     rw (ap (row_at users) of ∙ its.user, its.there, its.at, ap taken_in its.is)
-    (ap (λ (call : Call). bytes_want_memory call.target.manager (told k w) (meaning its.sent.bytes) (deed_in k w its.process thread call moment its.sent.bytes)) its.call_is)
+    (ap (λ (call : Call). bytes_want_memory (told k w) (context_of its.process (caller_of_call thread call) call.target moment (meaning its.sent.bytes)) (meaning its.sent.bytes)) its.call_is)
 
 -- the spare room is there still, where there is a reply
 pub room-there : {R : Type 0} (before room : Option R) (given : Result Done Errno) → IsSome before → HasRoomAfter before room given → IsReplied given → IsSome room

@@ -1,13 +1,21 @@
 -- The bytes of a file, by the blocks in which they stand.
-use Rattle.std.proofs.Common.{◌≡◌, ◌≢◌, ℕ, ◌+◌, ◌-◌, ◌*◌, ◌/◌, ◌<◌, ◌≤◌, true, false, List, ◌++◌, length, take, drop, replicate, get_or, refl, sym, ap, ◌∙◌, inl, inr, arith, Option, is_some, max, min, ◌⊎◌}
+use Rattle.std.proofs.Common.{◌≡◌, ◌≢◌, ℕ, ◌+◌, ◌-◌, ◌*◌, ◌/◌, ◌<◌, ◌≤◌, true, false, List, ◌++◌, length, take, drop, replicate, get_or, refl, sym, ap, ◌∙◌, inl, inr, arith, Option, Some, None, is_some, max, min, ◌⊎◌}
 use Rattle.std.proofs.lemmas.Bool.{cases_eq, cases_lt}
 use Rattle.std.proofs.Math.Seq.{take-add}
 use Rattle.std.proofs.lemmas.List.{drop-drop, drop_min, take_min, ext_get_or, length-append, length-take, length-drop, length-replicate, get_or_past, get_or-replicate, get_or-append_right, get_or_append_left, get_or-take, get_or-drop, length-map}
-use Rattle.std.proofs.lemmas.List.FromFn.{fill_by_all, get_or-map-range_with_len, length-map-range_with_len}
+use Rattle.std.proofs.lemmas.List.Elements.{All-from_get_or}
+use Rattle.std.proofs.lemmas.List.Folds.{list_any_at}
+use Rattle.std.proofs.lemmas.List.FromFn.{fill_by_all, get_or-map-range_with_len, get_or-range_with_len, length-map-range_with_len, length-range_with_len}
+use Rattle.std.proofs.lemmas.List.Sums.{list_all-from_AllPass}
+use Rattle.std.specs.List.{range_with_len}
+use Rattle.std.specs.Prelude.{◌==◌, IsTrue}
+use Rattle.qx_isolation.specs.Rows.{row_at}
 use Rattle.qx_machine.specs.Files.{get, put}
-use Rattle.qx_files.specs.Blocks.{LacksBlock, blocks_after, blocks_for, with_blocks}
-use Rattle.qx_files.specs.inner.Places.{LacksOne, HasAll, byte_after, bytes_of, there}
-use Rattle.qx_files.proofs.BlockLemmas.{in_put, length-with, made-with, not_put}
+use Rattle.qx_machine.specs.Wants.{is_blank, reaches_blank}
+use Rattle.qx_files.specs.Blocks.{Held, LacksBlock, blocks_after, blocks_for, with_blocks}
+use Rattle.qx_files.specs.inner.Places.{LacksOne, LacksPlace, HasAll, byte_after, byte_at, bytes_of, there}
+use Rattle.qx_files.proofs.BlockLemmas.{in_put, length-with, made-with, not_put, there_at}
+use Rattle.qx_files.proofs.PlaceLemmas.{lacking_bytes}
 use Rattle.qx_files.proofs.PutLemmas.{length-put}
 
 pub length-bytes : (byte : ℕ → ℕ) (size : ℕ) → length (bytes_of byte size) ≡ size
@@ -84,12 +92,46 @@ made_some old made offset count some is =
     omega (arith, some, long, ap length is, length-map made (λ block. is_some block))
 
 -- what is wanted: one of the blocks isn't there
-pub lacks_some : (old : List (Option ℕ)) (offset count : ℕ) → 0 < count → (length old < blocks_for (offset + count)) ⊎ LacksOne old (offset / 512) (blocks_for (offset + count)) → LacksBlock (there old) offset count
+pub lacks_some : (old : List (Option ℕ)) (offset count : ℕ) → 0 < count → (length old < blocks_for (offset + count)) ⊎ LacksOne old (offset / 512) (blocks_for (offset + count)) → LacksPlace old offset count
 lacks_some old offset count some (inl fewer) = (offset + count - 1, omega (arith, some), omega (arith, some), get_or_past (there old) ((offset + count - 1) / 512) false (omega (arith, some, fewer, length-map old (λ block. is_some block))))
 lacks_some old offset count some (inr lacks) =
     let from = lacks.1 in
     let to = lacks.2 in
     (max offset (512 * lacks.0), omega arith, omega (arith, some, to), ap (λ n. get_or (there old) n false) (omega (arith, from)) ∙ lacks.3)
+
+none_at : (places : List (Option ℕ)) (n : ℕ) → get_or (there places) n false ≡ false → row_at places n ≡ None
+none_at places n none = by_row (row_at places n) (sym (there_at places n) ∙ none)
+  where
+    by_row : (row : Option ℕ) → is_some row ≡ false → row ≡ None
+    by_row None is = refl
+    by_row (Some place) is = absurd (cc)
+
+-- a block that isn't there is blank
+blank : (bytes : List ℕ) (places : List (Option ℕ)) (size block : ℕ) → ((n : ℕ) → size ≤ n → byte_at bytes places n ≡ 0) → get_or (there places) block false ≡ false → IsTrue (is_blank (bytes_of (byte_at bytes places) size) block)
+blank bytes places size block zeros none = list_all-from_AllPass (λ byte. byte == 0) _ (All-from_get_or (λ byte. (byte == 0) ≡ true) (get all (512 * block) 512) 0 (λ n within.
+    let less : n < 512 = omega (arith, within, length-take 512 (drop (512 * block) all)) in
+    let at : (512 * block) / 512 ≡ block = omega arith in
+    ap (λ byte. byte == 0)
+    (get_or-take 512 (drop (512 * block) all) n 0 less
+    ∙ (get_or-drop (512 * block) all n 0
+    ∙ (get-any (byte_at bytes places) size zeros (512 * block + n)
+    ∙ lacking_bytes bytes places (512 * block) n (ap (row_at places) at ∙ none_at places block none) (omega arith))))))
+  where
+    all : List ℕ
+    all = bytes_of (byte_at bytes places) size
+
+pub lacks_blank : (bytes : List ℕ) (places : List (Option ℕ)) (size offset count : ℕ) → ((n : ℕ) → size ≤ n → byte_at bytes places n ≡ 0) → LacksPlace places offset count → LacksBlock (record { bytes = bytes_of (byte_at bytes places) size; blocks = there places }) offset count
+lacks_blank bytes places size offset count zeros lacks = (lacks.0, lacks.1, lacks.2, lacks.3, blank bytes places size (lacks.0 / 512) zeros lacks.3)
+
+-- a write that lacks a block reaches one that is blank
+pub lacks-reaches : (held : Held) (offset count : ℕ) → LacksBlock held offset count → IsTrue (reaches_blank held.bytes offset count)
+lacks-reaches held offset count lacks =
+    let from = lacks.1 in
+    let to = lacks.2 in
+    let n = lacks.0 - offset in
+    let less : n < count = omega (arith, from, to) in
+    let at : get_or (range_with_len offset count) n 0 ≡ lacks.0 = get_or-range_with_len offset count n 0 less ∙ omega (arith, from) in
+    list_any_at (λ place. is_blank held.bytes (place / 512)) (range_with_len offset count) n 0 (omega (arith, less, length-range_with_len offset count)) (ap (λ place. is_blank held.bytes (place / 512)) at ∙ lacks.4)
 
 -- ---- a read
 

@@ -1,11 +1,11 @@
 -- What is seen of the files of a user, as one of them comes, changes or goes.
 use Rattle.std.proofs.Common.{◌≡◌, ℕ, zero, suc, List, [], ◌∷◌, length, map, replicate, set, slice_set, refl, sym, ap, ◌∙◌, Option, Some, None}
-use Rattle.std.specs.Prelude.{Bool, IsSomeAnd, option_map}
+use Rattle.std.specs.Prelude.{IsSomeAnd, option_map}
 use Rattle.std.proofs.lemmas.List.{map-set}
 use Rattle.qx_machine.specs.Files.{put}
 use Rattle.qx_isolation.specs.Rows.{row_at, with_row}
-use Rattle.qx_files.specs.Blocks.{Held, after_write, blocks_after, nothing}
-use Rattle.qx_files.specs.Files.{blocks_pasted, pasted, with_nothing, without}
+use Rattle.qx_files.specs.Blocks.{Held, LacksBlock, after_write, blocks_after, nothing}
+use Rattle.qx_files.specs.Files.{FileLacksBlock, blocks_pasted, pasted, with_nothing, without}
 use Rattle.qx_files.specs.inner.Kept.{files_of, kept_of}
 
 module _ {A B : Type 0} (g : A → B) where
@@ -60,7 +60,10 @@ file-row contents n = row-map (λ (held : Held). held.bytes) contents n
 pub blocks-row : (contents : List (Option Held)) (n : ℕ) → row_at (kept_of contents).blocks n ≡ option_map (λ (held : Held). held.blocks) (row_at contents n)
 blocks-row contents n = row-map (λ (held : Held). held.blocks) contents n
 
--- what is said of the blocks of a file that is there
-pub some_blocks : (row : Option Held) (P : List Bool → Type 0) → IsSomeAnd row (λ (held : Held). P held.blocks) → IsSomeAnd (option_map (λ (held : Held). held.blocks) row) P
-some_blocks None P is = is
-some_blocks (Some held) P is = is
+-- a file lacks a block by what it holds
+pub file_lacks : (contents : List (Option Held)) (inode offset count : ℕ) → IsSomeAnd (row_at contents inode) (λ held. LacksBlock held offset count) → FileLacksBlock (kept_of contents) inode offset count
+file_lacks contents inode offset count lacks = rw (file-row contents inode, blocks-row contents inode) (by_row (row_at contents inode) lacks)
+  where
+    by_row : (row : Option Held) → IsSomeAnd row (λ held. LacksBlock held offset count) → IsSomeAnd (option_map (λ (held : Held). held.bytes) row) (λ bytes. IsSomeAnd (option_map (λ (held : Held). held.blocks) row) (λ blocks. LacksBlock (record { bytes = bytes; blocks = blocks }) offset count))
+    by_row None is = is
+    by_row (Some held) is = is

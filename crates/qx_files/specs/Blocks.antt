@@ -1,7 +1,8 @@
 -- The blocks in which the bytes of a file stand: 512 bytes each (this profile). What was never written needs none, and reads as zero bytes.
-use Rattle.std.specs.Prelude.{ℕ, ◌≡◌, ◌+◌, ◌-◌, ◌/◌, ◌<◌, ◌≤◌, Bool, true, false, List, [], ◌++◌, Option, Some, None, ◌==◌, drop, length, replicate, slice_index_or, take, if◌then◌else◌}
+use Rattle.std.specs.Prelude.{IsTrue, ℕ, ◌≡◌, ◌+◌, ◌-◌, ◌/◌, ◌<◌, ◌≤◌, Bool, true, false, List, [], ◌++◌, Option, Some, None, ◌==◌, drop, length, replicate, slice_index_or, take, if◌then◌else◌}
 use Rattle.std.specs.List.{count_by}
 use Rattle.qx_machine.specs.Files.{put}
+use Rattle.qx_machine.specs.Wants.{is_blank}
 
 -- how many blocks so many bytes take up
 abbrev pub blocks_for : ℕ → ℕ
@@ -33,6 +34,6 @@ blocks_after blocks offset count = if count == 0 then blocks else with_blocks bl
 abbrev pub after_write : Held → ℕ → List ℕ → Held
 after_write held offset new = record { bytes = put held.bytes offset new; blocks = blocks_after held.blocks offset (length new) }
 
--- one of so many bytes at an offset stands in a block that isn't there
-abbrev pub LacksBlock : List Bool → ℕ → ℕ → Type 0
-LacksBlock blocks offset count = (place : ℕ) × (offset ≤ place) × (place < offset + count) × (slice_index_or blocks (place / 512) false ≡ false)
+-- one of so many places from an offset on is in a block that isn't there, in which no byte but zero is then
+abbrev pub LacksBlock : Held → ℕ → ℕ → Type 0
+LacksBlock held offset count = (place : ℕ) × (offset ≤ place) × (place < offset + count) × (slice_index_or held.blocks (place / 512) false ≡ false) × IsTrue (is_blank held.bytes (place / 512))

@@ -127,12 +127,12 @@ impl Data {
     }
 
     /// Puts bytes at an offset; a gap before them has zero bytes. The blocks in which they stand are made first, and where
-    /// memory is short nothing changes: it is wanted only where one of these isn't there.
+    /// memory is short nothing changes: it is wanted only where one of these isn't there, which reads as zero bytes then.
     pub fn write(&mut self, offset: usize, new: &[u8]) -> Result<(), AllocError>
         requires { offset + length new.now < 2 ^ 63 }
         ensures ok { OnOk result (self.new ≡ after_write self.old offset new.now) }
         ensures err { OnErr result (self.new ≡ self.old) }
-        ensures lacks { OnErr result (LacksBlock self.old.blocks offset (length new.now)) }
+        ensures lacks { OnErr result (LacksBlock self.old offset (length new.now)) }
     {
         write_bytes(
             &mut self.bytes,

@@ -2,7 +2,7 @@ ghost use Rattle.std.specs.Prelude.{◌≡◌, ◌+◌, ◌<◌, ◌≤◌, None
 ghost use Rattle.std.specs.Option.{option_copied};
 ghost use Rattle.qx_files.specs.Blocks.{Held, LacksBlock, after_write, blocks_for, count_of};
 ghost use Rattle.qx_files.specs.Files as kept;
-ghost use Rattle.qx_files.specs.Files.{blocks_pasted, pasted, with_nothing};
+ghost use Rattle.qx_files.specs.Files.{FileLacksBlock, blocks_pasted, pasted, with_nothing};
 ghost use Rattle.qx_files.specs.inner.Kept.{files_of};
 ghost use Rattle.qx_machine.specs.Files.{size_of, total_size};
 ghost use Rattle.qx_isolation.specs.Rows.{row_at, with_row};
@@ -107,14 +107,14 @@ impl Files {
 
     /// Puts bytes into a file at an offset, with zero bytes in a gap before them, and gives its size then. The blocks in
     /// which they stand are made first, and where memory is short nothing changes: it is wanted only where one of these
-    /// isn't there.
+    /// isn't there, which reads as zero bytes then.
     pub fn write(&mut self, inode: u32, offset: usize, new: &[u8]) -> Result<usize, AllocError>
         requires within { offset + length new.now ≤ FILE }
         requires few { total_size (pasted self.old.files inode offset new.now) ≤ FILES }
         ensures size { IfOk result (λ size. size ≡ size_of (row_at self.new.files inode)) }
         ensures ok { OnOk result (self.new ≡ record { files = pasted self.old.files inode offset new.now; blocks = blocks_pasted self.old.blocks inode offset (length new.now) }) }
         ensures err { OnErr result (self.new ≡ self.old) }
-        ensures lacks { OnErr result (IsSomeAnd (row_at self.old.blocks inode) (λ blocks. LacksBlock blocks offset (length new.now))) }
+        ensures lacks { OnErr result (FileLacksBlock self.old inode offset (length new.now)) }
     {
         let (before, after) = paste(&mut self.contents, inode, offset, new)?;
         self.total = self.total - before + after;
@@ -134,7 +134,7 @@ fn paste(
     ensures after { IfOk result (λ sizes. sizes.1 ≡ size_of (row_at (files_of contents.new) inode)) }
     ensures ok { OnOk result (contents.new ≡ with_row contents.old inode (λ held. after_write held offset new.now)) }
     ensures err { OnErr result (contents.new ≡ contents.old) }
-    ensures lacks { OnErr result (IsSomeAnd (row_at contents.old inode) (λ (held : Held). LacksBlock held.blocks offset (length new.now))) }
+    ensures lacks { OnErr result (IsSomeAnd (row_at contents.old inode) (λ held. LacksBlock held offset (length new.now))) }
 {
     let Some(data) = contents.get_mut(inode) else {
         return Ok((0, 0));

@@ -1,8 +1,8 @@
 //! The blocks of a file: where each one stands, what makes them, and what puts bytes into them.
 
 ghost use Rattle.std.specs.Prelude.{◌≡◌, ◌+◌, ◌-◌, ◌*◌, ◌/◌, ◌<◌, ◌≤◌, ◌^◌, ◌++◌, ◌⊎◌, ℕ, None, Some, OnOk, OnErr, is_some, length, replicate, slice_index, slice_set, true, vec_capacity, max};
-ghost use Rattle.qx_files.specs.Blocks.{LacksBlock, blocks_after, blocks_for, with_blocks};
-ghost use Rattle.qx_files.specs.inner.Places.{HasAll, InOrder, InRun, LacksOne, Stand, Stay, byte_after, byte_at, padded, there};
+ghost use Rattle.qx_files.specs.Blocks.{blocks_after, blocks_for, with_blocks};
+ghost use Rattle.qx_files.specs.inner.Places.{HasAll, InOrder, InRun, LacksOne, LacksPlace, Stand, Stay, byte_after, byte_at, padded, there};
 ghost use Rattle.qx_isolation.specs.Rows.{row_at};
 
 use qx_attr::growth;
@@ -94,7 +94,7 @@ pub fn write_bytes(
     ensures none { length places.new.items ≡ 0 → vec_capacity places.new ≡ 0 }
     ensures err_bytes { OnErr result (bytes.new.items ≡ bytes.old.items) }
     ensures err_places { OnErr result (places.new.items ≡ places.old.items) }
-    ensures lacks { OnErr result (LacksBlock (there places.old.items) offset (length new.now)) }
+    ensures lacks { OnErr result (LacksPlace places.old.items offset (length new.now)) }
 {
     if new.is_empty() {
         return Ok(());

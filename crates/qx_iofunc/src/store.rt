@@ -1,6 +1,5 @@
-ghost use Rattle.std.specs.Prelude.{◌≡◌, ◌+◌, ◌-◌, ◌<◌, ◌≤◌, ℕ, List, Ok, Some, IfOk, IsSomeAnd, OnOk, OnErr, length, max};
-ghost use Rattle.qx_files.specs.Blocks.{LacksBlock};
-ghost use Rattle.qx_files.specs.Files.{blocks_pasted, pasted};
+ghost use Rattle.std.specs.Prelude.{◌≡◌, ◌+◌, ◌-◌, ◌<◌, ◌≤◌, ℕ, List, Ok, Some, IfOk, OnOk, OnErr, length, max};
+ghost use Rattle.qx_files.specs.Files.{FileLacksBlock, blocks_pasted, pasted};
 ghost use Rattle.qx_iofunc.specs.Sizes.{sized};
 ghost use Rattle.qx_iofunc.specs.Store.{boot_store, with_mount_root, with_stored};
 ghost use Rattle.qx_machine.specs.Files.{put, total_size};
@@ -148,7 +147,7 @@ impl Store {
         ensures ok { OnOk result ((r : Resources) (bytes : List ℕ) → row_at self.old.stored.files inode ≡ Some bytes → with_stored r self.new.stored ≡ with_bytes inode moment (put bytes offset new.now) (with_stored r self.old.stored)) }
         ensures err { OnErr result (self.new ≡ self.old) }
         ensures blocks { OnOk result (self.new.blocks ≡ blocks_pasted self.old.blocks inode offset (length new.now)) }
-        ensures lacks { OnErr result (IsSomeAnd (row_at self.old.blocks inode) (λ blocks. LacksBlock blocks offset (length new.now))) }
+        ensures lacks { OnErr result (FileLacksBlock (record { files = self.old.stored.files; blocks = self.old.blocks }) inode offset (length new.now)) }
     {
         let size = self.tables.files.write(inode, offset, new)?;
         self.tables.resize(inode, size as u64, moment);

@@ -1,4 +1,4 @@
-ghost use Rattle.std.specs.Prelude.{◌≡◌, ◌≤◌, [], None, IfOk, IsTrue, OnErr, length};
+ghost use Rattle.std.specs.Prelude.{◌≡◌, ◌≤◌, [], None, Ok, IfOk, IsTrue, OnErr, length};
 ghost use Rattle.qx_iofunc.specs.Given.{number_replied};
 ghost use Rattle.qx_iofunc.specs.Store.{with_stored};
 ghost use Rattle.qx_files.specs.Blocks.{blocks_for, count_of};
@@ -6,7 +6,7 @@ ghost use Rattle.qx_machine.specs.Files.{size_of, total_size, write_offset};
 ghost use Rattle.qx_machine.specs.RamManager as machine;
 ghost use Rattle.qx_machine.specs.Resources.{Resources};
 ghost use Rattle.qx_isolation.specs.Rows.{row_at};
-ghost use Rattle.qx_machine.specs.Wants.{is_done_so, writes_some};
+ghost use Rattle.qx_machine.specs.Wants.{is_done_so, writes_to_blank};
 ghost use Rattle.qx_ram.specs.Writes.{WritesToLacking};
 ghost use Rattle.qx_ram.specs.inner.Given.{moved_offset, write_fault};
 ghost use Rattle.qx_types.specs.declared.limits.TheConstants.Limits.{TRANSFER};
@@ -40,7 +40,8 @@ pub fn read(store: &mut Store, opened: Opened, count: u32, reply: &mut Reply) ->
 /// Writes bytes where an open control block stands, or with APPEND at the end, and gives their number; a gap is filled with
 /// zero bytes (C Library Reference: `write`). EBADF without a block for writing, EFBIG past 65,536 bytes, ENOSPC where the
 /// user's files would have more than 1,048,576 bytes together. Where an error comes or memory is short, nothing changes;
-/// memory is wanted only where no error comes, some bytes are written, and one of them stands in a block that isn't there.
+/// memory is wanted only where no error comes and one of the bytes stands in a block that isn't there, which reads as zero
+/// bytes then.
 #[tactic(auto, using(qx_files::proofs::SizeLemmas::size_within, crate::proofs::WriteLemmas::few_after))]
 pub fn write(
     store: &mut Store,
@@ -53,7 +54,7 @@ pub fn write(
     ensures kept { IfOk result (λ w. OnErr w (store.new ≡ store.old)) }
     ensures err { OnErr result (store.new ≡ store.old) }
     ensures lacks { OnErr result (WritesToLacking store.old opened.number (length new.now)) }
-    ensures wanted { OnErr result ((r : Resources) → IsTrue (is_done_so (λ before after. writes_some new.now) (with_stored r store.old.stored) (machine.write_file (with_stored r store.old.stored) opened new.now))) }
+    ensures wanted { OnErr result ((r : Resources) → IsTrue (is_done_so (λ before after. writes_to_blank before (Ok opened) new.now) (with_stored r store.old.stored) (machine.write_file (with_stored r store.old.stored) opened new.now))) }
 {
     let block = match store.inodes().block_for(opened.number, OFlags::WRITE) {
         Ok(block) => block,

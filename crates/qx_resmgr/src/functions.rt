@@ -1,5 +1,6 @@
-ghost use Rattle.std.specs.Prelude.{◌≡◌, ◌≤◌, ℕ, Bool, List, false, [], Err, IfOk, IsOk, IsSome, IsTrue, OnErr, length};
+ghost use Rattle.std.specs.Prelude.{◌≡◌, ◌≤◌, ℕ, Bool, List, Result, false, [], Err, IfOk, IsOk, IsSome, IsTrue, OnErr, length};
 ghost use Rattle.qx_types.specs.declared.limits.TheConstants.Limits.{TRANSFER};
+ghost use Rattle.qx_types.specs.declared.errno.Errno.{Errno};
 ghost use Rattle.qx_types.specs.declared.errno.Errno.TheVariants.{ENOSYS};
 ghost use Rattle.qx_machine.specs.declared.rows.Effect.TheVariants.{Keeps};
 ghost use Rattle.qx_machine.specs.declared.rows.Opened.{Opened};
@@ -110,9 +111,9 @@ pub trait Io<S: State<W, T>, W, T> {
     /// What they mean. A function that is left out is `no_function()`.
     ghost io: { IoFunctions T } = { no_io };
 
-    /// Which writes and notifications may want memory: by the bytes that are written, none by a notification, and by the
-    /// difference that they make to what the functions work on. Most managers' want none.
-    ghost wants: { List ℕ → T → T → Bool } = { λ _ _ _. false };
+    /// Which writes and notifications may want memory: by what is open, by the bytes that are written, none by a notification,
+    /// and by the difference that they make to what the functions work on. Most managers' want none.
+    ghost wants: { Result Opened Errno → List ℕ → T → T → Bool } = { λ _ _ _ _. false };
 
     /// What a read, a write or a notification needs of the thread whose message it is. Most managers ask nothing.
     ghost ready: { S → W → Opened → Type 0 } = { λ _ _ _. Unit {0} };
@@ -149,7 +150,7 @@ pub trait Io<S: State<W, T>, W, T> {
         ensures did { IfOk result (λ given. Did S.State state.old waits.old state.new waits.new [] given (function_deed io.write opened (λ f o. f (S.told state.old waits.old) o bytes.now))) }
         ensures room { IfOk result (λ given. HasRoomAfter room.old room.new given) }
         ensures err { OnErr result ((state.new ≡ state.old) × (waits.new ≡ waits.old) × (room.new ≡ room.old)) }
-        ensures wanted { OnErr result (IsTrue (is_done_so (wants bytes.now) (S.told state.old waits.old) (function_deed io.write opened (λ f o. f (S.told state.old waits.old) o bytes.now)))) };
+        ensures wanted { OnErr result (IsTrue (is_done_so (wants opened bytes.now) (S.told state.old waits.old) (function_deed io.write opened (λ f o. f (S.told state.old waits.old) o bytes.now)))) };
 
     /// Takes a connection away, and its block with it where no other connection has that (Writing a Resource Manager:
     /// `iofunc_close_dup`).
@@ -225,7 +226,7 @@ pub trait Io<S: State<W, T>, W, T> {
         ensures did { IfOk result (λ given. Did S.State state.old waits.old state.new waits.new [] given (function_deed io.notify opened (λ f o. f (S.told state.old waits.old) o action wish))) }
         ensures replied { IfOk result IsReplied }
         ensures err { OnErr result ((state.new ≡ state.old) × (waits.new ≡ waits.old)) }
-        ensures wanted { OnErr result (IsTrue (is_done_so (wants []) (S.told state.old waits.old) (function_deed io.notify opened (λ f o. f (S.told state.old waits.old) o action wish)))) };
+        ensures wanted { OnErr result (IsTrue (is_done_so (wants opened []) (S.told state.old waits.old) (function_deed io.notify opened (λ f o. f (S.told state.old waits.old) o action wish)))) };
 }
 
 /// The answer of a function that a manager leaves out: ENOSYS.

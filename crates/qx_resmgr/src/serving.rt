@@ -36,7 +36,7 @@ pub fn serve<M: Connect<S, W, T> + Io<S, W, T>, S: State<W, T>, W, T>(
     ensures did { IfOk result (λ given. Did S.State state.old waits.old state.new waits.new reply.new given (message_deed M.connect M.io (S.told state.old waits.old) context message.entry)) }
     ensures room { IfOk result (λ given. HasRoomAfter room.old room.new given) }
     ensures err { OnErr result ((state.new ≡ state.old) × (waits.new ≡ waits.old) × (room.new ≡ room.old)) }
-    ensures wanted { OnErr result (IsTrue (deed_wants_memory M.wants (S.told state.old waits.old) message.entry (message_deed M.connect M.io (S.told state.old waits.old) context message.entry))) }
+    ensures wanted { OnErr result (IsTrue (deed_wants_memory (M.wants context.opened) (S.told state.old waits.old) message.entry (message_deed M.connect M.io (S.told state.old waits.old) context message.entry))) }
 {
     let Context {
         target,

@@ -1,5 +1,5 @@
 -- What functions come to, by what the store and the pipes tell of them.
-use Rattle.std.proofs.Common.{◌≡◌, ◌∙◌, ◌+◌, ◌-◌, ℕ, Bool, false, List, [], Result, Ok, Err, IfOk, OnErr, MatchResult, refl, sym, ap, subst, arith}
+use Rattle.std.proofs.Common.{◌≡◌, ◌∙◌, ◌+◌, ◌-◌, ℕ, Bool, true, false, List, [], Result, Ok, Err, IfOk, OnErr, MatchResult, refl, sym, ap, subst, arith}
 use Rattle.std.specs.Prelude.{◌||◌, IsTrue, Option, option_map}
 use Rattle.std.proofs.lemmas.List.{set-get_or}
 use Rattle.qx_types.specs.declared.errno.Errno.{Errno}
@@ -20,7 +20,7 @@ use Rattle.qx_isolation.specs.Rows.{row_at}
 use Rattle.std.proofs.lemmas.Bool.{cond-false}
 use Rattle.qx_machine.specs.Functions.{Deed, reply_alone}
 use Rattle.qx_machine.specs.Resources.{Resources}
-use Rattle.qx_machine.specs.Wants.{difference_wants_memory, got_events, is_done_so, writes_some}
+use Rattle.qx_machine.specs.Wants.{difference_wants_memory, got_events, is_done_so, writes_to_blank}
 use Rattle.qx_pipes.proofs.PipesLemmas.{given-same}
 use Rattle.qx_pipes.specs.Pipes.{Follows, done_of, seen}
 use Rattle.qx_pipes.specs.Told.{bytes_told, status_told}
@@ -156,9 +156,19 @@ module _ (k l : Kept) (w v : Tables) (own : Kind) (opened : Opened) (last : is_s
       let closed : close_dup own (told k w) opened ≡ close_last own (told k w) opened = cond-false (is_shared (row_at k.inodes.blocks opened.number)) _ _ last in
       rw closed (refused-by error (close_ocb own (told k w) opened.number opened.moment) _ came)
 
--- ---- what a write wants
+-- ---- what a write or a notification wants
 
--- what a write of some bytes wants, it wants of the RAM manager
-pub some-wanted : (r : Resources) (bytes : List ℕ) (given : Result (Deed Resources) Errno) → IsTrue (is_done_so (λ before after. writes_some bytes) r given) → IsTrue (is_done_so (difference_wants_memory managers.Ram bytes) r given)
-some-wanted r bytes (Ok deed) some = ap (λ (test : Bool). test || got_events r deed.state) some
-some-wanted r bytes (Err error) some = some
+or-right : (test : Bool) {other : Bool} → other ≡ true → (test || other) ≡ true
+or-right true is = refl
+or-right false is = is
+
+module _ (r : Resources) (over : Result Opened Errno) (bytes : List ℕ) where
+  -- what a write to a blank block wants, it wants of the RAM manager
+  pub blank-wanted : (given : Result (Deed Resources) Errno) → IsTrue (is_done_so (λ before after. writes_to_blank before over bytes) r given) → IsTrue (is_done_so (difference_wants_memory managers.Ram over bytes) r given)
+  blank-wanted (Ok deed) blank = ap (λ (test : Bool). test || got_events r deed.state) blank
+  blank-wanted (Err error) blank = blank
+
+  -- what a notification that arms wants, it wants of the RAM manager too
+  pub events-wanted : (given : Result (Deed Resources) Errno) → IsTrue (is_done_so got_events r given) → IsTrue (is_done_so (difference_wants_memory managers.Ram over bytes) r given)
+  events-wanted (Ok deed) more = or-right (writes_to_blank r over bytes) more
+  events-wanted (Err error) more = more

@@ -117,8 +117,8 @@ impl Resources {
 
     /// Does what bytes that were sent to a manager ask it for, by what they mean; the bytes of the reply are then in `reply`,
     /// none after an error, and a call that waits took `room` along. A call on a pipe in which nobody waits is replied to, if
-    /// it is answered at once with a reply. Only an open, a mknod, a write of some bytes to a file and a notification that
-    /// arms may want memory, and only where they would be done.
+    /// it is answered at once with a reply. Only an open, a mknod, a write to a block of a file that has no byte but
+    /// zero and a notification that arms may want memory, and only where they would be done.
     pub fn perform(
         &mut self,
         all: &mut Tables,
@@ -134,7 +134,7 @@ impl Resources {
         ensures did { IfOk result (λ given. Did state self.old all.old self.new all.new reply.new given (told_by context.target.manager (told self.old all.old) context meaning.entry (deed_of (told self.old all.old) context meaning.entry))) }
         ensures room { IfOk result (λ given. HasRoomAfter room.old room.new given) }
         ensures err { OnErr result ((self.new ≡ self.old) × (all.new ≡ all.old) × (room.new ≡ room.old)) }
-        ensures wanted { OnErr result (IsTrue (bytes_want_memory context.target.manager (told self.old all.old) meaning.entry (deed_of (told self.old all.old) context meaning.entry))) }
+        ensures wanted { OnErr result (IsTrue (bytes_want_memory (told self.old all.old) context meaning.entry)) }
     {
         reply.clear();
         let message = match meaning {

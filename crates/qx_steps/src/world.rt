@@ -343,8 +343,8 @@ impl World {
     /// what it changes; the user's events that are due by that give their pulses. With a disconnect pulse goes the server
     /// connection that it was made for, and what is open over that still (Writing a Resource Manager:
     /// `_PULSE_CODE_DISCONNECT`). A message whose process has ended does nothing. `WrongState` where there is no such worker,
-    /// `Nothing` where it holds nothing. Only an open, a mkdir, a write of some bytes to a file and a notification that leaves
-    /// more events may want memory; one that is answered an error wants none.
+    /// `Nothing` where it holds nothing. Only an open, a mkdir, a write to a block of a file that has no byte but zero and a
+    /// notification that leaves more events may want memory; one that is answered an error wants none.
     #[tactic(auto, using(crate::proofs::WorkerLemmas::perform_steps))]
     pub fn perform_held(&mut self, worker: Worker, moment: u64) -> Result<Outcome, NoMemory>
         ensures outcome { IfOk result (λ outcome. outcome ≡ (machine.step self.old (Step.Perform worker moment)).outcome) }

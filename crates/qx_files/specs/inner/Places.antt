@@ -55,6 +55,10 @@ byte_after offset new before n = if nat_le offset n && nat_lt n (offset + length
 abbrev pub LacksOne : List (Option ℕ) → ℕ → ℕ → Type 0
 LacksOne places first end = (n : ℕ) × (first ≤ n) × (n < end) × (slice_index_or (there places) n false ≡ false)
 
+-- one of so many places from an offset on is in such a block
+abbrev pub LacksPlace : List (Option ℕ) → ℕ → ℕ → Type 0
+LacksPlace places offset count = (place : ℕ) × (offset ≤ place) × (place < offset + count) × (slice_index_or (there places) (place / 512) false ≡ false)
+
 -- all of them are
 abbrev pub HasAll : List (Option ℕ) → ℕ → ℕ → Type 0
 HasAll places first end = (n : ℕ) → first ≤ n → n < end → slice_index_or (there places) n false ≡ false → ⊥

@@ -1,7 +1,8 @@
-use Rattle.std.proofs.Common.{◌≡◌, ap, length, ◌∙◌}
-use Rattle.qx_files.specs.Blocks.{Held, blocks_after}
+use Rattle.std.proofs.Common.{◌≡◌, ap, length, subst, ◌∙◌}
+use Rattle.std.proofs.lemmas.Result.{err_from_is_err_and}
+use Rattle.qx_files.specs.Blocks.{Held, LacksBlock, blocks_after}
 use Rattle.qx_files.specs.inner.Places.{byte_at, bytes_of, there}
-use Rattle.qx_files.proofs.DataLemmas.{written_bytes, written_few, written_zeros}
+use Rattle.qx_files.proofs.DataLemmas.{lacks_blank, written_bytes, written_few, written_zeros}
 use Rattle.qx_machine.specs.Files.{put}
 use Rattle.qx_files.proofs.data.Data.write.Goals as goal
 
@@ -17,6 +18,12 @@ invariant_of-self-2 c =
       room = c.in_ok-write_bytes.ensures.room;
       none = c.in_ok-write_bytes.ensures.none;
     })
+
+pub returns-in_err-write_bytes-clause-lacks : goal.returns-in_err-write_bytes-clause-lacks
+returns-in_err-write_bytes-clause-lacks c =
+    let p = err_from_is_err_and c.from_residual.result c.from_residual.ensures.1 in
+    let lacks = lacks_blank c.self.inside.bytes.items c.self.inside.places.items c.self.inside.size c.args.offset (length c.args.new.now) c.self.invariant.zeros c.in_err-write_bytes.ensures.lacks in
+    rw p.1 (subst (λ held. LacksBlock held c.args.offset (length c.args.new.now)) c.self.view_is lacks)
 
 pub returns-clause-ok : goal.returns-clause-ok
 returns-clause-ok c =

@@ -1,13 +1,10 @@
-use Rattle.std.proofs.Common.{◌≡◌, Bool, List, ap, arith, length, subst, sym, ◌∙◌}
+use Rattle.std.proofs.Common.{◌≡◌, ap, arith, length, subst, ◌∙◌}
 use Rattle.std.proofs.lemmas.Result.{err_from_is_err_and}
 use Rattle.std.specs.List.{sum_by}
-use Rattle.std.specs.Prelude.{IsSomeAnd}
-use Rattle.qx_isolation.specs.Rows.{row_at}
 use Rattle.qx_machine.specs.Files.{put, size_of, total_size}
-use Rattle.qx_files.specs.Blocks.{LacksBlock}
-use Rattle.qx_files.specs.Files.{Kept, blocks_pasted, pasted}
+use Rattle.qx_files.specs.Files.{FileLacksBlock, Kept, blocks_pasted, pasted}
 use Rattle.qx_files.specs.inner.Kept.{files_of, kept_of}
-use Rattle.qx_files.proofs.KeptLemmas.{blocks-row, files-written, kept-written, some_blocks}
+use Rattle.qx_files.proofs.KeptLemmas.{file_lacks, files-written, kept-written}
 use Rattle.qx_files.proofs.SizeLemmas.{after_total, size_le}
 use Rattle.qx_files.proofs.files.Files.write.Goals as goal
 
@@ -35,9 +32,8 @@ invariant_of-self-2 c =
 pub returns-in_err-before-clause-lacks : goal.returns-in_err-before-clause-lacks
 returns-in_err-before-clause-lacks c =
     let p = err_from_is_err_and c.from_residual.result c.from_residual.ensures.1 in
-    let lacks = λ (blocks : List Bool). LacksBlock blocks c.args.offset (length c.args.new.now) in
-    let row : row_at (kept_of c.self.inside.contents).blocks c.args.inode ≡ row_at c.args.self.now.blocks c.args.inode = ap (λ (kept : Kept). row_at kept.blocks c.args.inode) c.self.view_is in
-    rw p.1 (subst (λ blocks. IsSomeAnd blocks lacks) (sym (blocks-row c.self.inside.contents c.args.inode) ∙ row) (some_blocks (row_at c.self.inside.contents c.args.inode) lacks c.in_err-before.ensures.lacks))
+    let lacks = file_lacks c.self.inside.contents c.args.inode c.args.offset (length c.args.new.now) c.in_err-before.ensures.lacks in
+    rw p.1 (subst (λ kept. FileLacksBlock kept c.args.inode c.args.offset (length c.args.new.now)) c.self.view_is lacks)
 
 pub returns-clause-ok : goal.returns-clause-ok
 returns-clause-ok c =
