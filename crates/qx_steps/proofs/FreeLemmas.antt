@@ -153,7 +153,7 @@ pub nobody_left : (c : Channel) (held : List OwnItem) (user : ℕ) → row_at c.
 nobody_left c held user none = ap (λ users. record c { users = users }) (with_row-none c.users user (processes_left held (channel_pipes c user) 0) none)
 
 -- nobody goes where none has ended
-pub living_left : (c : Channel) (held : List OwnItem) (user : ℕ) (processes : List (Option Process)) → row_at c.users user ≡ Some processes → list_any has_ended_in processes ≡ false → with_left c held user ≡ c
+living_left : (c : Channel) (held : List OwnItem) (user : ℕ) (processes : List (Option Process)) → row_at c.users user ≡ Some processes → list_any has_ended_in processes ≡ false → with_left c held user ≡ c
 living_left c held user processes there none =
     those_left c held user processes there
     ∙ ap (λ users. record c { users = users }) (ap (λ rows. slice_set c.users user (Some rows)) (living-left held (channel_pipes c user) 0 processes none) ∙ set-row c.users user processes there)

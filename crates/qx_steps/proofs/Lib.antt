@@ -13,6 +13,8 @@ pub mod SettledLemmas
 pub mod OwnerLemmas
 -- processes that have ended are freed
 pub mod FreeLemmas
+-- marks of users
+pub mod MarkLemmas
 -- a client's step, by what the channel makes of it
 pub mod ClientLemmas
 -- a process ends

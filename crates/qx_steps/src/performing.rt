@@ -64,7 +64,8 @@ pub(crate) fn perform(
 }
 
 /// Frees those processes of a user that have ended and of which nothing is left: no server connection, no item in a worker's
-/// hand and no call that waits. The user's mark tells whether any may have ended; where none has, it goes.
+/// hand and no call that waits. The user's mark tells whether any may have ended, and then whether any has that is there
+/// still.
 pub(crate) fn free_ended(
     channel: &mut Channel,
     hands: &[Option<Held>],
@@ -74,20 +75,35 @@ pub(crate) fn free_ended(
     requires marked { get_or marks.old.items user.0 true ≡ false → has_ended_among (row_at channel.old.users user.0) ≡ false }
     ensures freed { channel.new ≡ record (with_left channel.old (own_held user.0 hands.now) user.0) { room = channel.new.room } }
     ensures marked { get_or marks.new.items user.0 true ≡ false → has_ended_among (row_at channel.new.users user.0) ≡ false }
+    ensures unmarked { has_ended_among (row_at channel.new.users user.0) ≡ false → get_or marks.new.items user.0 false ≡ false }
     ensures others { (other : ℕ) → other ≢ user.0 → get_or marks.new.items other true ≡ get_or marks.old.items other true }
 {
     if !is_marked(marks.as_slice(), user) {
         return;
     }
+    free_each(channel, hands, user);
+    set_mark(marks, user, has_ended(channel, user));
+}
+
+/// Frees each process of a user that has ended and of which nothing is left.
+fn free_each(channel: &mut Channel, hands: &[Option<Held>], user: User)
+    ensures { channel.new ≡ record (with_left channel.old (own_held user.0 hands.now) user.0) { room = channel.new.room } }
+{
     let Some(processes) = channel.processes(user) else {
         return;
     };
-    if !processes.has_ended() {
-        set_mark(marks, user, false);
-        return;
-    }
     for number in 0..processes.places() {
         free_one(channel, hands, named_process(user, number));
+    }
+}
+
+/// Whether a process of a user has ended that is there still.
+fn has_ended(channel: &Channel, user: User) -> bool
+    ensures { result ≡ has_ended_among (row_at channel.now.users user.0) }
+{
+    match channel.processes(user) {
+        Some(processes) => processes.has_ended(),
+        None => false,
     }
 }
 
