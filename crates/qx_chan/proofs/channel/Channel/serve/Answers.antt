@@ -1,4 +1,4 @@
-use Rattle.std.proofs.Common.{◌≡◌, None, refl, ◌∙◌, sym}
+use Rattle.std.proofs.Common.{◌≡◌, None, refl, ◌∙◌, rules, sym}
 use Rattle.std.proofs.lemmas.Bool.{false≢true}
 use Rattle.qx_machine.specs.Performing.{dup_of}
 use Rattle.qx_chan.specs.inner.Calls.{taken_call}
