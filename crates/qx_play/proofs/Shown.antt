@@ -3,6 +3,7 @@ use Rattle.std.proofs.Common.{◌≡◌, ◌∙◌, List, [], ◌∷◌, ◌++�
 use Rattle.qx_types.specs.Configuration.{Configuration}
 use Rattle.qx_types.specs.declared.names.User.{User}
 use Rattle.qx_types.specs.declared.step.Step.{Step}
+use Rattle.qx_machine.specs.Machine.{machine}
 use Rattle.qx_machine.specs.Runs.{erase, received, run}
 use Rattle.qx_isolation.proofs.Runs.{run_received}
 use Rattle.qx_script.specs.declared.command.Command.{Command}
@@ -21,7 +22,7 @@ pub shown_last : (config : Configuration) (commands : List Command) (user : User
 unfolding shown
 shown_last config commands user =
     ap (λ (played : Played). played.text) (last_line config (record { steps = []; text = [] }) commands (Show user))
-    ∙ ap (λ seen. (played config commands).text ++ transcript_text config seen) (run_received config (played config commands).steps user.0)
+    ∙ ap (λ seen. (played config commands).text ++ transcript_text config seen) (run_received machine config (played config commands).steps user.0)
 
 pub erased_last : (config : Configuration) (commands : List Command) (user : User) → shown config (commands ++ Erased user ∷ []) ≡ shown config (commands ++ Show user ∷ [])
 unfolding shown
