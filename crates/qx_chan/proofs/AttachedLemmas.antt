@@ -1,13 +1,10 @@
--- What a message goes over, and the numbers of managers.
-use Rattle.std.proofs.Common.{◌≡◌, ◌≢◌, inl, inr, eq-eqb, ℕ, ◌<◌, false, refl, arith}
+-- What a message goes over.
+use Rattle.std.proofs.Common.{◌≡◌, ◌≢◌, inl, inr, eq-eqb, ℕ, false, refl}
 use Rattle.std.specs.Prelude.{◌==◌, is_none}
 use Rattle.std.proofs.lemmas.Bool.{cond_both}
 use Rattle.std.proofs.lemmas.Bool.Decides.{eqb_tells}
-use Rattle.qx_types.specs.Managers.{manager_number}
 use Rattle.qx_types.specs.declared.names.Manager.{Manager}
-use Rattle.qx_types.specs.declared.names.Manager.TheVariants.{Ram, Pipe}
 use Rattle.qx_types.specs.declared.names.Proc.{Proc}
-use Rattle.qx_types.specs.declared.names.TheConstants.Manager.{COUNT}
 use Rattle.qx_machine.specs.declared.rows.Effect.{Effect}
 use Rattle.qx_machine.specs.declared.rows.Effect.TheVariants.{Keeps, Opens, Closes}
 use Rattle.qx_machine.specs.declared.rows.Over.{Over}
@@ -15,11 +12,6 @@ use Rattle.qx_machine.specs.declared.rows.Over.TheVariants.{New, Existing, Side}
 use Rattle.qx_machine.specs.Processes.{Process, after_effect, after_error, after_reply, with_over}
 use Rattle.qx_isolation.specs.Rows.{row_at}
 use Rattle.qx_queues.specs.inner.Queues.{is_same_server}
-
--- each manager has a line
-pub number-below : (manager : Manager) → manager_number manager < COUNT
-number-below Ram = omega arith
-number-below Pipe = omega arith
 
 pub eqb-differs : (n m : ℕ) → n ≢ m → (n == m) ≡ false
 eqb-differs n m differs = elim (eqb_tells n m) [

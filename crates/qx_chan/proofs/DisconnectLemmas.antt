@@ -1,7 +1,6 @@
 -- A disconnect pulse is performed: the open control blocks of its client go, its server connection goes, and who waited for them is answered, as in
 -- the machine.
 use Rattle.std.proofs.Common.{◌≡◌, ℕ, List, Option, Some, None, Ok, map, refl, sym, ◌∙◌, ap}
-use Rattle.std.specs.Prelude.{option_map}
 use Rattle.qx_types.specs.declared.names.Proc.{Proc}
 use Rattle.qx_types.specs.declared.outcome.Outcome.TheVariants.{WrongState}
 use Rattle.qx_machine.specs.declared.rows.Client.{Client}
@@ -29,8 +28,9 @@ use Rattle.qx_chan.specs.inner.Serving.{Leaves}
 use Rattle.qx_chan.specs.Users.{Users, process_of, process_of_user, with_process_of}
 use Rattle.qx_chan.proofs.FreedLemmas.{Answering-freed}
 use Rattle.qx_chan.proofs.GivenLemmas.{lines-machine, resources-machine, users-machine}
-use Rattle.qx_chan.proofs.RowReads.{row_at-with_same, with_row-twice}
+use Rattle.qx_chan.proofs.RowReads.{with_row-twice}
 use Rattle.qx_chan.proofs.ServeLemmas.{Answering-left, Serves-given, Serves-nothing, Waits, given_all, shown, waits-before}
+use Rattle.qx_chan.proofs.ServedLemmas.{changed-there}
 
 module _ (users : Users) (w : AllTables) (k : state.Kept) (proc : Proc) (of : k.user ≡ proc.user.0) (server : ServerName) (moment : ℕ) where
   abbrev client : Client
@@ -65,6 +65,9 @@ module _ (users : Users) (w : AllTables) (k : state.Kept) (proc : Proc) (of : k.
     abbrev freed : Users
     freed = with_process_of users proc (without_server server)
 
+    freed-there : row_at freed proc.user.0 ≡ Some rows
+    freed-there = changed-there users proc (without_server server) processes there
+
     left : Leaves (is_living processes) k w l v deed
     left = record { told_is = told_is; shared = ap (λ (v : AllTables). v.shared) shared; events = ap (λ (v : AllTables). v.events.events) shared; mounts = ap (λ (v : AllTables). v.mounts) shared; user = user }
 
@@ -75,6 +78,6 @@ module _ (users : Users) (w : AllTables) (k : state.Kept) (proc : Proc) (of : k.
     pub Serves-disconnected : Serves (shown users w.shared w.mounts w.events.events) (given_all (with_process_of users proc (without_server server)) v.shared v.mounts v.events.events) k l (λ part. settled part (or_kept part (serve_disconnect part (record { process = proc.num; server = server }) moment)))
     Serves-disconnected = Serves-given users w k served kept.shared l v deed proc.user.0 of processes there left (answering (with_process proc.num (without_server server) (part_of processes)) deed) (ap (served_from (part_of processes)) here)
         (resources-machine deed.answers left_part) (lives-answers deed.answers left_part ∙ lives-changed processes proc.num (without_server server) (record { keeps = λ process. refl })) freed v.shared refl refl
-        (users-machine freed proc.user.0 deed.answers left_part (row_at-with_same users proc.user.0 (λ rows. with_row rows proc.num (without_server server)) ∙ ap (option_map (λ rows. with_row rows proc.num (without_server server))) there)
+        (users-machine freed proc.user.0 deed.answers left_part freed-there
         ∙ with_row-twice users proc.user.0 (λ rows. with_row rows proc.num (without_server server)) (λ _. (answering (with_process proc.num (without_server server) (part_of processes)) deed).part.processes))
-        (ap (λ q. given_lines q.lines (map (users_given proc.user.0) deed.answers)) left.shared ∙ lines-machine proc.user.0 w.shared.lines deed.answers)
+        (ap (λ q. given_lines freed q.lines (map (users_given proc.user.0) deed.answers)) left.shared ∙ lines-machine freed proc.user.0 w.shared.lines deed.answers (with_process proc.num (without_server server) (part_of processes)) freed-there)

@@ -2,6 +2,7 @@
 use Rattle.std.proofs.Common.{◌≡◌, ◌≢◌, ◌⊎◌, inl, inr, ℕ, zero, suc, ◌+◌, ◌<◌, ◌≤◌, ◌&&◌, ◌||◌, ◌==◌, ◌++◌, ◌∷◌, [], List, Bool, true, false, not, Option, Some, None, IsTrue, length, map, is_some, get_or, slice_set, refl, sym, ◌∙◌, ap, subst, arith}
 use Rattle.qx_procs.specs.Calls.{EndsAt, has_ended_in}
 use Rattle.std.proofs.lemmas.Option.{same_Some}
+use Rattle.qx_types.proofs.Managers.{number_below}
 use Rattle.qx_types.specs.declared.outcome.Answer.{Answer}
 use Rattle.qx_paths.specs.Prefixes.{MountPoint}
 use Rattle.qx_machine.specs.declared.rows.State.{State}
@@ -45,7 +46,7 @@ use Rattle.qx_chan.specs.inner.Kept.{IsWaiting, StandTogether, asked_call, has_n
 use Rattle.qx_chan.specs.Nodes.{served_at}
 use Rattle.qx_chan.specs.Users.{Users, process_of, thread_row, with_process_of}
 use Rattle.qx_chan.proofs.AnswerLemmas.{and_last, and_middle}
-use Rattle.qx_chan.proofs.AttachedLemmas.{eqb-differs, number-below}
+use Rattle.qx_chan.proofs.AttachedLemmas.{eqb-differs}
 use Rattle.qx_chan.proofs.LostLemmas.{Kept-beside, StandBeside, beside-lost, is_at_server, lost-fields, lost-lines, lost-nodes}
 use Rattle.qx_chan.proofs.ProcessLemmas.{process_of-other, process_of-same}
 use Rattle.qx_chan.proofs.RowReads.{length-with_row, option_cases, row_at-past, row_at-with_other, row_within}
@@ -93,7 +94,7 @@ module _ (queues : Shared) (thread : Thread) (row : ThreadRow) (sent : Sent) (st
   line = line_at queues.lines line_number
 
   within : line_number < length queues.lines
-  within = rw managers (number-below sent.target.manager)
+  within = rw managers (number_below sent.target.manager)
 
   module _ (change : List Queued → List Queued) where
     -- a read of one line

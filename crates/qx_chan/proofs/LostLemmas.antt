@@ -1,14 +1,15 @@
 -- A process that has lost a server connection: its disconnect node goes into the line as the pulse, and rows, lines and nodes stand together
 -- then.
-use Rattle.std.proofs.Common.{◌≡◌, ◌≢◌, inl, inr, ℕ, ◌∷◌, [], ◌&&◌, not, true, List, Option, Some, None, IsTrue, length, map, subst, refl, sym, ◌∙◌, ap, Bool, false}
+use Rattle.std.proofs.Common.{◌≡◌, ◌≢◌, inl, inr, ℕ, ◌∷◌, [], ◌++◌, ◌&&◌, not, true, List, Option, Some, None, IsTrue, length, map, subst, refl, sym, ◌∙◌, ap, Bool, false}
 use Rattle.std.specs.List.{AllByRecursion, list_any}
 use Rattle.std.specs.Option.{option_to_list}
+use Rattle.std.specs.List.{flat_map}
 use Rattle.std.specs.Prelude.{IfSome, option_map, take, ◌||◌}
 use Rattle.std.proofs.Math.Bool.{and-true}
 use Rattle.std.proofs.lemmas.List.{length-set}
-use Rattle.qx_types.specs.Managers.{manager_number}
+use Rattle.qx_types.proofs.Managers.{number_below}
+use Rattle.qx_types.specs.Managers.{manager_number, managers}
 use Rattle.qx_types.specs.declared.names.Manager.{Manager}
-use Rattle.qx_types.specs.declared.names.Manager.TheVariants.{Pipe, Ram}
 use Rattle.qx_types.specs.declared.names.Proc.{Proc}
 use Rattle.qx_types.specs.declared.names.TheConstants.Manager.{COUNT}
 use Rattle.qx_types.specs.declared.names.Thread.{Thread}
@@ -20,6 +21,7 @@ use Rattle.qx_machine.specs.Machine.{lines_after, rank}
 use Rattle.qx_machine.specs.Parts.{disconnect, disconnects}
 use Rattle.qx_machine.specs.Processes.{Process, lost_servers, servers_at}
 use Rattle.qx_machine.specs.Servers.{in_use, lost_by}
+use Rattle.qx_process.proofs.AttachLemmas.{same_lost}
 use Rattle.qx_process.specs.Reads.{is_at}
 use Rattle.qx_queues.specs.Queues.{disconnect_of, stands, unblock_call}
 use Rattle.qx_shared.specs.Shared.{Shared, has_disconnect_node, has_thread, waiting_in, with_shared_disconnect}
@@ -33,7 +35,7 @@ use Rattle.qx_queues.proofs.NodesLemmas.{same_proc}
 use Rattle.qx_queues.proofs.SetLemmas.{has-removed, is_same_server-differs}
 use Rattle.std.proofs.lemmas.Bool.{cases_eq}
 use Rattle.qx_machine.specs.Events.{Events}
-use Rattle.qx_chan.proofs.AttachedLemmas.{number-below, same_server-self}
+use Rattle.qx_chan.proofs.AttachedLemmas.{same_server-self}
 use Rattle.qx_chan.proofs.ProcessLemmas.{process_of-same}
 use Rattle.qx_chan.proofs.ServeLemmas.{shown}
 
@@ -47,13 +49,16 @@ pub lost-pulses : (number : ℕ) (change : Process → Process) (process : Optio
 lost-pulses number change None lost none = rw none refl
 lost-pulses number change (Some process) lost loses = ap (λ servers. map (disconnect number) (take 1 servers)) loses.lost_is ∙ ap (map (disconnect number)) (first-listed lost)
 
--- a process that stays as it is loses nothing
-same-lost : (manager : Manager) (number : Option ℕ) → lost_by manager number number ≡ []
-same-lost manager None = refl
-same-lost manager (Some number) = refl
+-- lists that are all empty
+flat-none : {A B : Type 0} (each : A → List B) (xs : List A) → ((x : A) → each x ≡ []) → flat_map each xs ≡ []
+flat-none each [] none = refl
+flat-none each (x ∷ xs) none = (λ i. none x i ++ flat_map each xs) ∙ flat-none each xs none
 
+-- a process that stays as it is loses nothing
 pub none-lost : (process : Process) → lost_servers process process ≡ []
-none-lost process = rw (same-lost Ram (in_use (servers_at Ram process)), same-lost Pipe (in_use (servers_at Pipe process))) refl
+none-lost process =
+    let used = λ (manager : Manager). in_use (servers_at manager process) in
+    flat-none (λ manager. lost_by manager (used manager) (used manager)) managers (λ manager. same_lost manager (used manager))
 
 -- what is lost was in use
 pub lost-used : (lost : Option ServerName) (before after : Option Process) → LosesAt lost before after → IfSome lost (λ server. served_at server.manager before ≡ true)
@@ -141,7 +146,7 @@ module _ (users : Users) (queues : Shared) (proc : Proc) (server : ServerName) (
   told : {A : Type 0} (read : List Queued → A) (at : ℕ) → read (into rank (line_at queues.lines number) (disconnect_of proc server)) ≡ read (line_at queues.lines number)
       → read (line_at (with_shared_disconnect queues proc server).lines at) ≡ read (line_at queues.lines at)
   told read at same = elim (cases_eq at number) [
-    | inl equal ↦ rw (equal, line_at-same queues.lines number (λ line. into rank line (disconnect_of proc server)) (rw beside.managers (number-below server.manager))) same
+    | inl equal ↦ rw (equal, line_at-same queues.lines number (λ line. into rank line (disconnect_of proc server)) (rw beside.managers (number_below server.manager))) same
     | inr differs ↦ rw (line_at-other queues.lines number (λ line. into rank line (disconnect_of proc server)) at differs) refl
   ]
 

@@ -1,6 +1,6 @@
 -- A received message that was done is replied to, is left without a reply, or is refused: rows, lines and nodes stand together each time, but
 -- that answers are on their way, and once those are given all is as in the machine.
-use Rattle.std.proofs.Common.{◌≡◌, ◌⊎◌, subst, inl, inr, ℕ, ◌∷◌, ◌++◌, [], true, false, List, Option, Some, None, Result, Ok, Err, map, refl, sym, ◌∙◌, ap, ap₂}
+use Rattle.std.proofs.Common.{◌≡◌, subst, inl, inr, ℕ, ◌∷◌, ◌++◌, [], true, false, List, Option, Some, None, Result, Ok, Err, map, refl, sym, ◌∙◌, ap, ap₂}
 use Rattle.std.proofs.lemmas.Bool.{eq-eqb}
 use Rattle.std.specs.Option.{option_to_list}
 use Rattle.std.specs.Prelude.{if◌then◌else◌, is_some, option_map, take}
@@ -10,7 +10,6 @@ use Rattle.qx_types.specs.Managers.{manager_number}
 use Rattle.qx_types.specs.declared.errno.Errno.{Errno}
 use Rattle.qx_types.specs.declared.names.Coid.{Coid}
 use Rattle.qx_types.specs.declared.names.Manager.{Manager}
-use Rattle.qx_types.specs.declared.names.Manager.TheVariants.{Pipe, Ram}
 use Rattle.qx_types.specs.declared.names.Thread.{Thread}
 use Rattle.qx_types.specs.declared.outcome.Answer.{Answer}
 use Rattle.qx_types.specs.declared.outcome.Answer.TheVariants as answer
@@ -30,14 +29,14 @@ use Rattle.qx_machine.specs.Events.{Events}
 use Rattle.qx_machine.specs.Functions.{Deed, Reply}
 use Rattle.qx_isolation.specs.Lines.{line_at, with_line}
 use Rattle.qx_machine.specs.Machine.{line_without, lines_after}
-use Rattle.qx_machine.specs.Parts.{Change, Part, disconnect, disconnects, thread_of}
+use Rattle.qx_machine.specs.Parts.{Change, Part, disconnect, disconnects, thread_at, thread_of, with_process}
 use Rattle.qx_machine.specs.Resources.{Resources}
-use Rattle.qx_machine.specs.Performing.{Served, after_answer, after_message, after_serving, answered_changes, context_of, dup_of, or_kept, own_change, serve_message, served_changes, taken_in}
+use Rattle.qx_machine.specs.Performing.{Served, after_answer, after_message, after_serving, answered_changes, called_by, called_in, context_of, dup_of, or_kept, own_change, serve_message, served_changes, taken_in}
 use Rattle.qx_machine.specs.Processes.{Process, served_state, served_thread, with_thread}
 use Rattle.qx_machine.specs.Settling.{is_living}
 use Rattle.qx_machine.proofs.Living.{lives-answered}
 use Rattle.qx_isolation.specs.Rows.{row_at, with_row}
-use Rattle.qx_machine.proofs.Waiters.{InDeed, IsAlone, alone-answers, alone-replied, deed-keeps, deed-keeps_replied, opened_by-caller, ram_deed-alone}
+use Rattle.qx_machine.proofs.Waiters.{InDeed, deed-keeps, deed-keeps_replied, opened_by-caller}
 use Rattle.qx_queues.specs.Queues.{unblock_call}
 use Rattle.qx_shared.specs.Shared.{Shared, users_given, with_shared_line}
 use Rattle.qx_pipes.specs.Told.{told_alone}
@@ -59,13 +58,13 @@ use Rattle.qx_chan.specs.inner.Serving.{Comes, Leaves, caller_of_call, deed_in, 
 use Rattle.qx_chan.specs.Users.{Users, process_of_user, process_of, thread_row, with_process_of, with_thread_row}
 use Rattle.qx_chan.specs.declared.call.Call.{Call}
 use Rattle.qx_chan.proofs.AnswerLemmas.{IsAnswer, fails, replies}
-use Rattle.qx_chan.proofs.GivenLemmas.{resources-machine}
+use Rattle.qx_chan.proofs.GivenLemmas.{lines-machine, resources-machine}
 use Rattle.qx_chan.proofs.LostLemmas.{lost-fields, lost-lines, lost-pulses, none-lost}
 use Rattle.qx_chan.proofs.MessageLemmas.{Received, serves-message, taken-received}
 use Rattle.qx_chan.proofs.ServeLemmas.{Answering-left, Serves-given, Waits, given_all, left-same, nothing_done, shown, waits-before}
 use Rattle.qx_chan.proofs.ProcessLemmas.{process_of-same}
 use Rattle.qx_chan.proofs.ToldLemmas.{KeepsPipes, LeavesOwn, asked-existing, asked-own, asked-pipes, told-serves}
-use Rattle.qx_chan.proofs.ServedLemmas.{Answering-answered, lines-done, lines-others, users-done, users-refused}
+use Rattle.qx_chan.proofs.ServedLemmas.{Answering-answered, changed-there, lines-done, users-done, users-refused}
 use Rattle.qx_chan.proofs.ThreadLemmas.{Kept-thread, one_thread}
 
 -- ---- a message that is served stands in no line, is asked as it was, and its thread waits
@@ -103,10 +102,6 @@ served-waits call (Some row) is = by_state row.state is
     by_state (Waiting sent) is = is
     by_state (Answered answer) is = is
 
-pipe_or_ram : (manager : Manager) → (manager ≡ Pipe) ⊎ (manager ≡ Ram)
-pipe_or_ram Pipe = inl refl
-pipe_or_ram Ram = inr refl
-
 module _ (users : Users) (w : AllTables) (thread : Thread) (call : Call) (its : Received users thread call) (kept : StandTogether users w.shared) where
   abbrev user : ℕ
   user = thread.proc.user.0
@@ -129,10 +124,10 @@ module _ (users : Users) (w : AllTables) (thread : Thread) (call : Call) (its : 
   pub Kept-served : StandTogether (with_thread_row users thread served_thread) w.shared
   Kept-served = Kept-thread users w.shared thread served_thread kept (λ at. served-stands at (thread_row users thread)) (λ at call. served-asked at call (thread_row users thread)) (λ call. served-waits call (thread_row users thread))
 
-  -- the thread waits for the answer to its call at the pipe manager
-  own-waits : manager ≡ Pipe → waits_for call.number (thread_row served_users thread) ≡ true
-  own-waits pipe = ap (waits_for call.number) row_is ∙ ap (λ (c : Call). is_waiting_for c.number its.row.calls (Waiting (record its.sent { bytes = [] }))) (sym its.call_is)
-      ∙ rw (eq-eqb (manager_number its.sent.target.manager) (manager_number Pipe) (ap manager_number (ap (λ (c : Call). c.target.manager) its.call_is ∙ pipe)), eq-eqb its.row.calls its.row.calls refl) refl
+  -- the thread waits for the answer to its call
+  own-waits : waits_for call.number (thread_row served_users thread) ≡ true
+  own-waits = ap (waits_for call.number) row_is ∙ ap (λ (c : Call). is_waiting_for c.number its.row.calls (Waiting (record its.sent { bytes = [] }))) (sym its.call_is)
+      ∙ eq-eqb its.row.calls its.row.calls refl
     where
       row_is : thread_row served_users thread ≡ Some (record its.row { state = Waiting (record its.sent { bytes = [] }) })
       row_is = (one_thread users thread (with_thread thread.tid served_thread) served_thread (λ x. refl) (λ x. refl)).own
@@ -167,7 +162,7 @@ module _ (users : Users) (w : AllTables) (thread : Thread) (call : Call) (its : 
     lost_by r = disconnects thread.proc.num (after_message thread.tid call.target.over r) (row_at part.processes thread.proc.num)
 
     abbrev served_by : Result (Deed Resources) Errno → Served
-    served_by r = record { part = after_answer part thread.proc.num thread.tid call.target.over r; changes = served_changes manager (caller_of_call thread call) (lost_by r) r }
+    served_by r = record { part = after_answer part thread.proc.num thread.tid call.target.over r; changes = served_changes (with_process thread.proc.num (after_message thread.tid call.target.over r) part) manager (caller_of_call thread call) (lost_by r) r }
 
     -- the disconnect pulse of what is lost
     lost_pulses : (f : Process → Process) (lost : Option ServerName) → Loses lost its.process (f its.process) → disconnects thread.proc.num f (row_at part.processes thread.proc.num) ≡ map (disconnect thread.proc.num) (option_to_list lost)
@@ -184,34 +179,17 @@ module _ (users : Users) (w : AllTables) (thread : Thread) (call : Call) (its : 
     served_is : served part ≡ served_by meant
     served_is = subst (λ (c : Call). served part ≡ record {
       part = after_answer part thread.proc.num thread.tid c.target.over (deed_in k w its.process thread c moment its.sent.bytes);
-      changes = served_changes c.target.manager (caller_of_call thread c)
+      changes = served_changes (with_process thread.proc.num (after_message thread.tid c.target.over (deed_in k w its.process thread c moment its.sent.bytes)) part) c.target.manager (caller_of_call thread c)
           (disconnects thread.proc.num (after_message thread.tid c.target.over (deed_in k w its.process thread c moment its.sent.bytes)) (row_at part.processes thread.proc.num))
           (deed_in k w its.process thread c moment its.sent.bytes);
     }) its.call_is
         (ap (or_kept part) (serves-message part thread.proc.num thread.tid moment its.process its.row its.sent its.there its.at (ap taken_in its.is)))
 
-    -- the RAM manager replies to it, and answers no other
-    alone : (deed : Deed Resources) → meant ≡ Ok deed → manager ≡ Ram → IsAlone (told k w) deed
-    alone deed is ram = ram_deed-alone (told k w) its.process (caller_of_call thread call) call.target moment (meaning its.sent.bytes) deed is ram
-
-    only : (deed : Deed Resources) → meant ≡ Ok deed → (manager ≡ Pipe) ⊎ (deed.answers ≡ [])
-    only deed is = elim (pipe_or_ram manager) [
-      | inl pipe ↦ inl pipe
-      | inr ram ↦ inr (alone-answers (told k w) deed (alone deed is ram))
-    ]
-
-    -- what is left without a reply, the pipe manager served
-    piped : (deed : Deed Resources) → meant ≡ Ok deed → None ≡ deed.reply → manager ≡ Pipe
-    piped deed is reply_is = elim (pipe_or_ram manager) [
-      | inl pipe ↦ pipe
-      | inr ram ↦ let clash : false ≡ true = ap is_some reply_is ∙ alone-replied (told k w) deed (alone deed is ram) in absurd (cc)
-    ]
-
     module _ (deed : Deed Resources) (left : Leaves (is_living its.processes) k w l v deed) (r : Result (Deed Resources) Errno) (same : served_by meant ≡ served_by r) (resources_are : (served_by r).part.resources ≡ deed.state) where
       -- once the answers are given, all is as in the machine
       serves : (rows : Users) (after : Shared) → after.answered ≡ v.shared.answered → after.pipes ≡ v.shared.pipes
           → given_users rows (map (users_given user) deed.answers) ≡ with_row users user (λ _. (served_by r).part.processes)
-          → given_lines after.lines (map (users_given user) deed.answers) ≡ lines_after user w.shared.lines (served_by r).changes
+          → given_lines rows after.lines (map (users_given user) deed.answers) ≡ lines_after user w.shared.lines (served_by r).changes
           → Serves (shown users w.shared w.mounts w.events.events) (given_all rows after v.mounts v.events.events) k l (λ part. settled part (served part))
       serves = Serves-given users w k served kept l v deed user of its.processes its.user left (served_by r) (served_is ∙ same) resources_are (lives-answered part thread.proc.num thread.tid call.target.over r)
 
@@ -219,12 +197,12 @@ module _ (users : Users) (w : AllTables) (thread : Thread) (call : Call) (its : 
       answered : (f : Process → Process) (given : Answer) → IsAnswer thread.tid given f → InDeed (Waits users k.user) deed → Gone v.shared
           → (lost : Option ServerName) → Loses lost its.process (f its.process)
           → given_users (with_process_of users thread.proc f) (map (users_given user) deed.answers) ≡ with_row users user (λ _. (served_by r).part.processes)
-          → given_lines (lines_after user (with_line w.shared.lines (manager_number manager) drop_pulse) (map (disconnect thread.proc.num) (option_to_list lost))) (map (users_given user) deed.answers) ≡ lines_after user w.shared.lines (served_by r).changes
+          → given_lines (with_process_of users thread.proc f) (lines_after user (with_line w.shared.lines (manager_number manager) drop_pulse) (map (disconnect thread.proc.num) (option_to_list lost))) (map (users_given user) deed.answers) ≡ lines_after user w.shared.lines (served_by r).changes
           → After (with_process_of users thread.proc f) (without_pulse v.shared its.process (f its.process) thread call) v.mounts v.events.events k l served
       answered f given answers keeps gone lost loses rows_are lines_are = rw loses.lost_is (
         Answering-answered users v.shared thread call (taken-received users thread call its) (Answering-left users k.user w.shared v.shared deed kept left.shared keeps) f given answers gone lost loses_there,
         serves rows after (lost-fields thread.proc (λ c. c.answered) (λ c server. refl) (option_to_list lost) dropped) (lost-fields thread.proc (λ c. c.pipes) (λ c server. refl) (option_to_list lost) dropped) rows_are
-            (ap (λ lines. given_lines lines (map (users_given user) deed.answers))
+            (ap (λ lines. given_lines rows lines (map (users_given user) deed.answers))
             (lost-lines thread.proc (option_to_list lost) dropped ∙ ap (λ q. lines_after user (with_line q.lines (manager_number manager) drop_pulse) (map (disconnect thread.proc.num) (option_to_list lost))) left.shared)
             ∙ lines_are),
       )
@@ -242,33 +220,40 @@ module _ (users : Users) (w : AllTables) (thread : Thread) (call : Call) (its : 
           loses_there = rw (process_of-same users thread.proc f, its.user, its.there) loses
 
     module _ (deed : Deed Resources) (left : Leaves (is_living its.processes) k w l v deed) (same : served_by meant ≡ served_by (Ok deed)) where
+      -- the rows once it is replied to, or left without a reply
+      abbrev mid : Option Reply → Part
+      mid reply = with_process thread.proc.num (after_serving thread.tid call.target.over reply) part
+
       -- the rows and the lines, by the reply
       rows_by : (reply : Option Reply) → reply ≡ deed.reply → given_users (with_process_of users thread.proc (after_serving thread.tid call.target.over reply)) (map (users_given user) deed.answers) ≡ with_row users user (λ _. (served_by (Ok deed)).part.processes)
       rows_by reply reply_is = ap (λ r. given_users (with_process_of users thread.proc (after_serving thread.tid call.target.over r)) (map (users_given user) deed.answers)) reply_is ∙ users-done users thread.proc thread.tid call.target.over part its.user deed
 
       lines_by : (reply : Option Reply) (lost : List Change) → reply ≡ deed.reply → lost ≡ lost_by (Ok deed)
-          → lines_after user w.shared.lines ((if is_some reply then own_change manager (caller_of_call thread call) ∷ [] else []) ++ lost ++ answered_changes manager deed.answers) ≡ lines_after user w.shared.lines (served_by (Ok deed)).changes
-      lines_by reply lost reply_is lost_is = ap₂ (λ r pulses. lines_after user w.shared.lines ((if is_some r then own_change manager (caller_of_call thread call) ∷ [] else []) ++ pulses ++ answered_changes manager deed.answers)) reply_is lost_is
+          → lines_after user w.shared.lines ((if is_some reply then own_change manager (caller_of_call thread call) ∷ [] else []) ++ lost ++ answered_changes deed.answers (mid reply)) ≡ lines_after user w.shared.lines (served_by (Ok deed)).changes
+      lines_by reply lost reply_is lost_is = ap₂ (λ r pulses. lines_after user w.shared.lines ((if is_some r then own_change manager (caller_of_call thread call) ∷ [] else []) ++ pulses ++ answered_changes deed.answers (mid r))) reply_is lost_is
 
-      reply_after : InDeed (Waits users k.user) deed → (manager ≡ Pipe) ⊎ (deed.answers ≡ []) → (status : ℕ) (bytes : List ℕ) (effect : Effect) → Some (record { status = status; bytes = bytes; effect = effect }) ≡ deed.reply → Gone v.shared
+      mid-there : (reply : Option Reply) → row_at (with_process_of users thread.proc (after_serving thread.tid call.target.over reply)) user ≡ Some (mid reply).processes
+      mid-there reply = changed-there users thread.proc (after_serving thread.tid call.target.over reply) its.processes its.user
+
+      reply_after : InDeed (Waits users k.user) deed → (status : ℕ) (bytes : List ℕ) (effect : Effect) → Some (record { status = status; bytes = bytes; effect = effect }) ≡ deed.reply → Gone v.shared
           → (lost : Option ServerName) → Loses lost its.process (process_replied thread.tid effect status bytes call.target.over its.process)
           → After (with_process_of users thread.proc (process_replied thread.tid effect status bytes call.target.over)) (without_pulse v.shared its.process (process_replied thread.tid effect status bytes call.target.over its.process) thread call) v.mounts v.events.events k l served
-      reply_after keeps of_pipe status bytes effect reply_is gone lost loses =
+      reply_after keeps status bytes effect reply_is gone lost loses =
           let reply : Reply = record { status = status; bytes = bytes; effect = effect } in
           let pulses = map (disconnect thread.proc.num) (option_to_list lost) in
           let pulses_are : pulses ≡ lost_by (Ok deed) =
           sym (lost_pulses (process_replied thread.tid effect status bytes call.target.over) lost loses) ∙ ap (λ r. disconnects thread.proc.num (after_serving thread.tid call.target.over r) (row_at part.processes thread.proc.num)) reply_is in
           answered deed left (Ok deed) same (resources-machine deed.answers _) (process_replied thread.tid effect status bytes call.target.over) (answer.Reply status bytes) (replies thread.tid effect status bytes call.target.over) keeps
-          gone lost loses (rows_by (Some reply) reply_is) (lines-done user manager deed.answers of_pipe w.shared.lines (caller_of_call thread call) pulses ∙ lines_by (Some reply) pulses reply_is pulses_are)
+          gone lost loses (rows_by (Some reply) reply_is) (lines-done (with_process_of users thread.proc (after_serving thread.tid call.target.over (Some reply))) user manager deed.answers (mid (Some reply)) (mid-there (Some reply)) w.shared.lines (caller_of_call thread call) pulses ∙ lines_by (Some reply) pulses reply_is pulses_are)
 
       -- where it is left without a reply, its own call waits or is answered
       waiting_after : meant ≡ Ok deed → None ≡ deed.reply → After served_users v.shared v.mounts v.events.events k l served
       waiting_after is reply_is = (
         Answering-left served_users k.user w.shared v.shared deed Kept-served left.shared
             (deed-keeps (told k w) its.process (caller_of_call thread call) call.target moment (meaning its.sent.bytes) deed is (Waits served_users k.user) (waits-before served_users k.user w.shared Kept-served.waits)
-            (λ block wanted bytes. ap (λ u. waits_for call.number (thread_row served_users (record { proc = record { user = record { 0 = u }; num = thread.proc.num }; tid = thread.tid }))) of ∙ own-waits (piped deed is reply_is))),
+            (λ block wanted bytes. ap (λ u. waits_for call.number (thread_row served_users (record { proc = record { user = record { 0 = u }; num = thread.proc.num }; tid = thread.tid }))) of ∙ own-waits)),
         serves deed left (Ok deed) same (resources-machine deed.answers _) served_users v.shared refl refl (rows_by None reply_is)
-            (ap (λ q. given_lines q.lines (map (users_given user) deed.answers)) left.shared ∙ lines-others user manager deed.answers (only deed is) w.shared.lines ∙ lines_by None [] reply_is (nothing_lost deed reply_is)),
+            (ap (λ q. given_lines served_users q.lines (map (users_given user) deed.answers)) left.shared ∙ lines-machine served_users user w.shared.lines deed.answers (mid None) (mid-there None) ∙ lines_by None [] reply_is (nothing_lost deed reply_is)),
       )
 
   -- it is refused, and nothing of the resources or what is shared is different
@@ -280,7 +265,8 @@ module _ (users : Users) (w : AllTables) (thread : Thread) (call : Call) (its : 
       answered k k w of moment (nothing_done (told k w)) (left-same (is_living its.processes) k w) (Err error) (ap (served_by k k w of moment) is) refl (failed thread.tid error call.target.over) (answer.Failed error) (fails thread.tid error call.target.over)
       (record { pipes = waits-before users k.user w.shared kept.waits; answers = tt })
       gone lost loses (users-refused users thread.proc thread.tid call.target.over (part k k w of moment) its.user error)
-      (lines-done user manager [] (inr refl) w.shared.lines (caller_of_call thread call) pulses
+      (lines-done (with_process_of users thread.proc (failed thread.tid error call.target.over)) user manager [] (with_process thread.proc.num (failed thread.tid error call.target.over) (part k k w of moment))
+      (changed-there users thread.proc (failed thread.tid error call.target.over) its.processes its.user) w.shared.lines (caller_of_call thread call) pulses
       ∙ ap (lines_after user w.shared.lines) (append-nil (own_change manager (caller_of_call thread call) ∷ pulses))
       ∙ ap (λ lost. lines_after user w.shared.lines (own_change manager (caller_of_call thread call) ∷ lost)) (sym (lost_pulses k k w of moment (failed thread.tid error call.target.over) lost loses)))
 
@@ -302,7 +288,7 @@ module _ (users : Users) (w : AllTables) (thread : Thread) (call : Call) (its : 
   outcome_by k l v of moment bytes (Ok (done.Reply status effect)) (Ok deed) is did gone lost =
       reply_after k l v of moment deed did.1 (ap (served_by k l v of moment) is)
       (deed-keeps_replied (told k w) its.process (caller_of_call thread call) call.target moment (meaning its.sent.bytes) deed is (Waits users k.user) (waits-before users k.user w.shared kept.waits) (record { status = status; bytes = bytes; effect = effect }) (sym did.0))
-      (only k l v of moment deed is) status bytes effect did.0 (gone tt) (lost tt).0 (lost tt).1
+      status bytes effect did.0 (gone tt) (lost tt).0 (lost tt).1
   outcome_by k l v of moment bytes (Ok done.NoReply) (Ok deed) is did gone lost = waiting_after k l v of moment deed did.1 (ap (served_by k l v of moment) is) is did.0
   outcome_by k l v of moment bytes (Err error) (Err refused) is did gone lost =
       subst (λ (l : state.Kept). Outcome k l v moment bytes (Err error)) (sym did.1)
@@ -330,8 +316,10 @@ module _ (users : Users) (w : AllTables) (thread : Thread) (call : Call) (its : 
 
       same : served_by k l v of moment (meant k l v of moment) ≡ served_by k l v of moment (Ok (told_deed deed one.status one.bytes))
       same =
+          let called : called_by (thread_at (part k l v of moment) thread.proc.num thread.tid) ≡ manager =
+          ap (λ row. called_by (thread_of thread.tid row)) its.there ∙ ap called_by its.at ∙ ap called_in its.is ∙ ap (λ (c : Call). c.target.manager) its.call_is in
           let whose = opened_by-caller its.process (caller_of_call thread call) call.target moment (dup_of (meaning its.sent.bytes)) it.opened it.over in
-          let told_same = told-serves (part k l v of moment) (caller_of_call thread call) (record { target = call.target; is_asked = call.is_asked; bytes = [] }) existing.0 (told k w) it.opened (meant k l v of moment) existing.1 whose own in
+          let told_same = told-serves (part k l v of moment) (caller_of_call thread call) (record { target = call.target; is_asked = call.is_asked; bytes = [] }) existing.0 (told k w) it.opened (meant k l v of moment) existing.1 called whose own in
           sym told_same ∙ ap (served_by k l v of moment) (ap (told_alone (told k w) it.opened) is ∙ one.told)
 
       keeps : InDeed (Waits users k.user) (told_deed deed one.status one.bytes)
@@ -342,7 +330,7 @@ module _ (users : Users) (w : AllTables) (thread : Thread) (call : Call) (its : 
       }
 
       by_given : (given : Result Done Errno) → Comes (is_living its.processes) k w l v bytes given (Ok (told_deed deed one.status one.bytes)) → (IsReplied given → Gone v.shared) → (IsReplied given → HasLost bytes given) → Outcome k l v moment bytes given
-      by_given (Ok (done.Reply status effect)) did gone lost = reply_after k l v of moment (told_deed deed one.status one.bytes) did.1 same keeps (inr refl) status bytes effect did.0 (gone tt) (lost tt).0 (lost tt).1
+      by_given (Ok (done.Reply status effect)) did gone lost = reply_after k l v of moment (told_deed deed one.status one.bytes) did.1 same keeps status bytes effect did.0 (gone tt) (lost tt).0 (lost tt).1
       by_given (Ok done.NoReply) did gone lost = let clash : None ≡ Some (record { status = one.status; bytes = one.bytes; effect = Keeps }) = did.0 in absurd (cc)
       by_given (Err error) did gone lost = absurd did
 

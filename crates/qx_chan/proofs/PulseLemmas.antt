@@ -1,7 +1,6 @@
 -- An unblock pulse is performed: who waits is answered, as in the machine.
 use Rattle.std.proofs.Common.{◌≡◌, subst, ℕ, List, Option, Some, Ok, Err, map, refl, ◌∙◌, ap}
 use Rattle.std.specs.Prelude.{◌<◌, IfOk, Result, length}
-use Rattle.qx_types.specs.declared.names.Manager.TheVariants.{Pipe}
 use Rattle.qx_types.specs.declared.outcome.Outcome.{Outcome}
 use Rattle.qx_machine.specs.Functions.{Deed}
 use Rattle.qx_isolation.specs.Judgements.{◌>>=◌}
@@ -46,7 +45,7 @@ module _ (users : Users) (w : AllTables) (k l : state.Kept) (v : AllTables) (pro
 
   -- what it comes to, by what the cancelling gives
   abbrev served_by : Deed Resources → Served
-  served_by deed = record { part = with_answers deed.answers (record part { resources = deed.state }); changes = answered_changes Pipe deed.answers }
+  served_by deed = record { part = with_answers deed.answers (record part { resources = deed.state }); changes = answered_changes deed.answers part }
 
   abbrev served_from : Result (Deed Resources) Outcome → Served
   served_from r = or_kept part (r >>= (λ deed. Ok (served_by deed)))
@@ -59,7 +58,7 @@ module _ (users : Users) (w : AllTables) (k l : state.Kept) (v : AllTables) (pro
     Answering-left users k.user w.shared v.shared deed kept left.shared keeps,
     Serves-given users w k served kept l v deed k.user refl processes there left (served_by deed) is (resources-machine deed.answers (record part { resources = deed.state })) (lives-answers deed.answers (record part { resources = deed.state })) users v.shared refl refl
         (users-machine users k.user deed.answers (record part { resources = deed.state }) there)
-        (ap (λ q. given_lines q.lines (map (users_given k.user) deed.answers)) left.shared ∙ lines-machine k.user w.shared.lines deed.answers),
+        (ap (λ q. given_lines users q.lines (map (users_given k.user) deed.answers)) left.shared ∙ lines-machine users k.user w.shared.lines deed.answers part there),
   )
 
   pub pulsed : (r : Result (Deed Resources) Outcome) → cancel_call (told k w) process thread call moment ≡ r → Cancelled (is_living processes) k w l v r → Pulsed

@@ -1,7 +1,7 @@
 -- Where the room for a thread's reply is, and which answers bring it.
 use Rattle.std.proofs.Common.{◌≡◌, List, ℕ, true, Option, Some, None, refl}
 use Rattle.std.proofs.lemmas.Bool.{false≢true}
-use Rattle.std.specs.Prelude.{IfSome, IsTrue, is_some}
+use Rattle.std.specs.Prelude.{IfSome, IsSome, IsTrue, is_some}
 use Rattle.qx_types.specs.declared.errno.Errno.{Errno}
 use Rattle.qx_types.specs.declared.outcome.Answer.{Answer}
 use Rattle.qx_types.specs.declared.outcome.Answer.TheVariants.{Failed}
@@ -50,6 +50,11 @@ awaited-waits call (Some row) is = by_state row.state is
     by_state (state.Taken sent) is = absurd (false≢true is)
     by_state (state.Waiting sent) is = refl
     by_state (state.Answered given) is = absurd (false≢true is)
+
+-- it is there
+pub awaited-there : (call : ℕ) (place : Option ThreadRow) → waits_for call place ≡ true → IsSome place
+awaited-there call None is = absurd (false≢true is)
+awaited-there call (Some row) is = refl
 
 -- a thread whose message was received awaits a reply
 pub taken_awaits : (place : Option ThreadRow) (call : Call) → Some call ≡ taken_call place → AwaitsReply place

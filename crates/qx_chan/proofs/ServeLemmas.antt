@@ -132,7 +132,7 @@ shown users queues mounts events = record { users = users; lines = queues.lines;
 
 -- once answers that are on their way are given
 abbrev pub given_all : Users → Shared → List (List MountPoint) → List Events → Channel
-given_all users queues mounts events = record { users = given_users users queues.answered; lines = given_lines queues.lines queues.answered; pipes = queues.pipes; events = events; mounts = mounts; room = queues.room }
+given_all users queues mounts events = record { users = given_users users queues.answered; lines = given_lines users queues.lines queues.answered; pipes = queues.pipes; events = events; mounts = mounts; room = queues.room }
 
 -- nothing was done, and nobody is answered
 abbrev pub nothing_done : Resources → Deed Resources
@@ -207,7 +207,7 @@ module _ (users : Users) (w : AllTables) (k : state.Kept) (served : Part → Ser
 
     pub Serves-given : (s : Served) → served (record { processes = processes; resources = told k w }) ≡ s → s.part.resources ≡ deed.state → is_living s.part.processes ≡ is_living processes → (rows : Users) (after : Shared) → after.answered ≡ v.shared.answered → after.pipes ≡ v.shared.pipes
         → given_users rows (map (users_given user) deed.answers) ≡ with_row users user (λ _. s.part.processes)
-        → given_lines after.lines (map (users_given user) deed.answers) ≡ lines_after user w.shared.lines s.changes
+        → given_lines rows after.lines (map (users_given user) deed.answers) ≡ lines_after user w.shared.lines s.changes
         → Serves (shown users w.shared w.mounts w.events.events) (given_all rows after v.mounts v.events.events) k l (λ part. settled part (served part))
     Serves-given s is resources_are lives_are rows after answered pipes rows_are lines_are = record {
       did = part-served now l processes (ap (row_at users) of ∙ there) (subst (DidAll now l) (ap (settled (part_of processes)) (sym is)) (λ i. record { users = users_here i; lines = lines_here i; pipes = pipes_here i; events = events_here i; mounts = left.mounts i; room = after.room }, resources_here));
@@ -220,8 +220,8 @@ module _ (users : Users) (w : AllTables) (k : state.Kept) (served : Part → Ser
         users_here : given_users rows after.answered ≡ with_row users k.user (λ _. s.part.processes)
         users_here = ap (given_users rows) (answered ∙ answered_are) ∙ rows_are ∙ ap (λ user. with_row users user (λ _. s.part.processes)) (sym of)
 
-        lines_here : given_lines after.lines after.answered ≡ lines_after k.user w.shared.lines s.changes
-        lines_here = ap (given_lines after.lines) (answered ∙ answered_are) ∙ lines_are ∙ ap (λ user. lines_after user w.shared.lines s.changes) (sym of)
+        lines_here : given_lines rows after.lines after.answered ≡ lines_after k.user w.shared.lines s.changes
+        lines_here = ap (given_lines rows after.lines) (answered ∙ answered_are) ∙ lines_are ∙ ap (λ user. lines_after user w.shared.lines s.changes) (sym of)
 
         pipes_here : after.pipes ≡ slice_set w.shared.pipes k.user s.part.resources.pipes
         pipes_here = pipes ∙ ap (λ q. q.pipes) left.shared ∙ ap (λ (r : Resources). slice_set w.shared.pipes k.user r.pipes) (sym resources_are)

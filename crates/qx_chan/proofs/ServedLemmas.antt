@@ -1,5 +1,5 @@
 -- A message is served: its thread is answered beside the calls that waited, as in the machine.
-use Rattle.std.proofs.Common.{◌≡◌, ◌⊎◌, inl, inr, ℕ, ◌∷◌, ◌++◌, [], List, Option, Some, None, map, refl, sym, ◌∙◌, ap, true, false}
+use Rattle.std.proofs.Common.{◌≡◌, inl, inr, ℕ, ◌∷◌, ◌++◌, [], List, Option, Some, None, map, refl, sym, ◌∙◌, ap, true, false}
 use Rattle.qx_queues.proofs.NodesLemmas.{same_or_not}
 use Rattle.std.specs.List.{AllByRecursion}
 use Rattle.std.specs.Option.{option_to_list}
@@ -7,7 +7,6 @@ use Rattle.std.specs.Prelude.{Ok, Err, option_map, slice_set}
 use Rattle.qx_types.specs.Managers.{manager_number}
 use Rattle.qx_types.specs.declared.errno.Errno.{Errno}
 use Rattle.qx_types.specs.declared.names.Manager.{Manager}
-use Rattle.qx_types.specs.declared.names.Manager.TheVariants.{Pipe}
 use Rattle.qx_types.specs.declared.names.Proc.{Proc}
 use Rattle.qx_types.specs.declared.names.Thread.{Thread}
 use Rattle.qx_types.specs.declared.outcome.Answer.{Answer}
@@ -42,13 +41,17 @@ use Rattle.qx_chan.proofs.ThreadLemmas.{OneThread, one_thread}
 
 -- ---- rows
 
+-- a process of a user that is there changes
+pub changed-there : (users : Users) (proc : Proc) (f : Process → Process) (processes : List (Option Process)) → row_at users proc.user.0 ≡ Some processes → row_at (with_process_of users proc f) proc.user.0 ≡ Some (with_row processes proc.num f)
+changed-there users proc f processes there = row_at-with_same users proc.user.0 (λ rows. with_row rows proc.num f) ∙ ap (option_map (λ rows. with_row rows proc.num f)) there
+
 module _ (users : Users) (proc : Proc) (thread : ℕ) (over : Over) (part : Part) (there : row_at users proc.user.0 ≡ Some part.processes) where
   -- the thread that sent a message that is done, and who waited
   pub users-done : (deed : Deed Resources) → given_users (with_process_of users proc (after_serving thread over deed.reply)) (map (users_given proc.user.0) deed.answers)
       ≡ with_row users proc.user.0 (λ _. (after_answer part proc.num thread over (Ok deed)).processes)
   users-done deed =
       users-machine (with_process_of users proc (after_serving thread over deed.reply)) proc.user.0 deed.answers (with_process proc.num (after_serving thread over deed.reply) (record part { resources = deed.state }))
-      (row_at-with_same users proc.user.0 (λ rows. with_row rows proc.num (after_serving thread over deed.reply)) ∙ ap (option_map (λ rows. with_row rows proc.num (after_serving thread over deed.reply))) there)
+      (changed-there users proc (after_serving thread over deed.reply) part.processes there)
       ∙ with_row-twice users proc.user.0 (λ rows. with_row rows proc.num (after_serving thread over deed.reply)) (λ _. (after_answer part proc.num thread over (Ok deed)).processes)
 
   -- the thread that sent one that is answered an error
@@ -61,21 +64,14 @@ pub lines_after-append : (user : ℕ) (lines : List (List Queued)) (first rest :
 lines_after-append user lines [] rest = refl
 lines_after-append user lines (change ∷ first) rest = lines_after-append user (with_line lines (manager_number (changed_manager change)) (line_after user change)) first rest
 
-module _ (user : ℕ) (manager : Manager) (answers : List (WaitingCall × Answer)) (only : (manager ≡ Pipe) ⊎ (answers ≡ [])) where
-  -- those whom the pipe manager answers are all who are answered
-  pub lines-others : (lines : List (List Queued)) → given_lines lines (map (users_given user) answers) ≡ lines_after user lines (answered_changes manager answers)
-  lines-others lines = elim only [
-    | inl pipe ↦ rw pipe (lines-machine user lines answers)
-    | inr none ↦ rw none refl
-  ]
-
-  -- where the message is replied to, by which its process may have lost a server connection
-  pub lines-done : (lines : List (List Queued)) (caller : Caller) (lost : List Change)
-      → given_lines (lines_after user (with_line lines (manager_number manager) (line_without user (item.Unblock caller.process caller.thread caller.call))) lost) (map (users_given user) answers)
-      ≡ lines_after user lines ((own_change manager caller ∷ []) ++ lost ++ answered_changes manager answers)
-  lines-done lines caller lost =
-      lines-others (lines_after user (with_line lines (manager_number manager) (line_without user (item.Unblock caller.process caller.thread caller.call))) lost)
-      ∙ sym (lines_after-append user lines ((own_change manager caller ∷ []) ++ lost) (answered_changes manager answers))
+-- where the message is replied to, by which its process may have lost a server connection
+pub lines-done : (users : Users) (user : ℕ) (manager : Manager) (answers : List (WaitingCall × Answer)) (part : Part) → row_at users user ≡ Some part.processes
+    → (lines : List (List Queued)) (caller : Caller) (lost : List Change)
+    → given_lines users (lines_after user (with_line lines (manager_number manager) (line_without user (item.Unblock caller.process caller.thread caller.call))) lost) (map (users_given user) answers)
+    ≡ lines_after user lines ((own_change manager caller ∷ []) ++ lost ++ answered_changes answers part)
+lines-done users user manager answers part there lines caller lost =
+    lines-machine users user (lines_after user (with_line lines (manager_number manager) (line_without user (item.Unblock caller.process caller.thread caller.call))) lost) answers part there
+    ∙ sym (lines_after-append user lines ((own_change manager caller ∷ []) ++ lost) (answered_changes answers part))
 
 -- ---- what stands together
 

@@ -6,11 +6,11 @@ use Rattle.std.specs.List.{AllByRecursion}
 use Rattle.std.proofs.lemmas.Bool.{cases_Bool, cases_lt}
 use Rattle.std.proofs.lemmas.Bool.Decides.{eqb_tells, nat_tests}
 use Rattle.std.proofs.lemmas.List.{get_or-replicate, length-replicate}
+use Rattle.qx_types.proofs.Managers.{number_below}
 use Rattle.qx_types.specs.Managers.{manager_number}
 use Rattle.qx_types.specs.declared.errno.Errno.TheVariants.{EAGAIN, EINVAL}
 use Rattle.qx_types.specs.declared.limits.TheConstants.Limits.{PRIORITY, PROCESSES, THREADS}
 use Rattle.qx_types.specs.declared.names.Manager.{Manager}
-use Rattle.qx_types.specs.declared.names.Manager.TheVariants.{Pipe, Ram}
 use Rattle.qx_types.specs.declared.names.TheConstants.Manager.{COUNT}
 use Rattle.qx_types.specs.declared.names.Proc.{Proc}
 use Rattle.qx_types.specs.declared.names.Thread.{Thread}
@@ -22,6 +22,7 @@ use Rattle.qx_machine.specs.Events.{no_events}
 use Rattle.qx_isolation.specs.Lines.{line_at}
 use Rattle.qx_machine.specs.Parts.{thread_of}
 use Rattle.qx_machine.specs.Processes.{Process, new_process, new_thread}
+use Rattle.qx_machine.specs.Servers.{in_use, no_servers}
 use Rattle.qx_isolation.specs.Rows.{row_at, lowest_from, put_row, with_row}
 use Rattle.qx_isolation.proofs.Places.{lowest_from_free}
 use Rattle.qx_procs.specs.Calls.{has_ended_in, spawned}
@@ -36,6 +37,7 @@ use Rattle.qx_chan.specs.Channel.{Channel, after_spawn}
 use Rattle.qx_chan.specs.inner.Users.{HasPlace}
 use Rattle.qx_chan.specs.Users.{Users, no_processes, process_of_user, process_of, spawn_number_in, thread_row}
 use Rattle.qx_process.proofs.RowLemmas.{row_at-get_or, set-row, with_row-none}
+use Rattle.qx_process.proofs.ServerLemmas.{line_at-get_or}
 use Rattle.qx_chan.specs.inner.Kept.{IsWaiting, StandTogether, asked_call, has_nodes, stands_at, waits_for}
 use Rattle.qx_chan.specs.Nodes.{room_started, served_at}
 use Rattle.qx_queues.proofs.EntryLemmas.{or_false}
@@ -147,8 +149,7 @@ new_waits threads (suc k) prio number = elim (cases_lt k threads) [
 ]
 
 new_served : (threads prio : ℕ) (manager : Manager) → served_at manager (Some (new_process threads prio)) ≡ false
-new_served threads prio Ram = refl
-new_served threads prio Pipe = refl
+new_served threads prio manager = ap (λ servers. is_some (in_use servers)) (line_at-get_or (new_process threads prio).servers (manager_number manager) ∙ get_or-replicate COUNT (manager_number manager) no_servers [] (number_below manager))
 
 module _ (users : Users) (proc : Proc) (threads prio : ℕ) (begun : Starts users proc threads prio) where
   abbrev started : List (Option Process) → List (Option Process)

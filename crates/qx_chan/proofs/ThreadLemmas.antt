@@ -4,6 +4,7 @@ use Rattle.std.specs.List.{AllByRecursion}
 use Rattle.std.specs.Prelude.{◌==◌, option_map, if◌then◌else◌}
 use Rattle.std.proofs.lemmas.Bool.{cases_eq}
 use Rattle.std.proofs.lemmas.List.{length-set}
+use Rattle.qx_types.proofs.Managers.{number_below}
 use Rattle.qx_types.specs.Managers.{manager_number}
 use Rattle.qx_types.specs.declared.names.Manager.{Manager}
 use Rattle.qx_types.specs.declared.names.Proc.{Proc}
@@ -23,7 +24,6 @@ use Rattle.qx_chan.specs.inner.Kept.{IsWaiting, StandTogether, asked_call, has_n
 use Rattle.qx_chan.specs.Nodes.{served_at}
 use Rattle.qx_queues.proofs.EntryLemmas.{line_at-other, line_at-same}
 use Rattle.qx_queues.proofs.NodesLemmas.{same_or_not, same_proc}
-use Rattle.qx_chan.proofs.AttachedLemmas.{number-below}
 use Rattle.qx_chan.proofs.ProcessLemmas.{process_of-other, process_of-same}
 use Rattle.qx_chan.proofs.RowReads.{length-with_row, row_at-with_other, row_at-with_same}
 use Rattle.qx_chan.proofs.LostLemmas.{Kept-beside, StandBeside}
@@ -202,7 +202,7 @@ module _ (users new : Users) (queues : Shared) (thread : Thread) (f : Process �
   lines_after = with_line queues.lines number change
 
   pub within : number < length queues.lines
-  within = rw kept.managers (number-below manager)
+  within = rw kept.managers (number_below manager)
 
   pub at_line : line_at lines_after number ≡ change (line_at queues.lines number)
   at_line = line_at-same queues.lines number change within

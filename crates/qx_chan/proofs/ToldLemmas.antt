@@ -1,7 +1,7 @@
 -- A deed of a pipe in which nobody waits, told as a reply to its own message, serves the message in the same way.
 use Rattle.std.proofs.Common.{◌≡◌, inl, inr, ℕ, ◌==◌, List, [], ◌∷◌, ◌++◌, length, drop, take, map, Bool, true, refl, sym, ap, ◌∙◌, subst, arith}
-use Rattle.std.specs.Prelude.{Option, Some, None, Result, Ok, Err, IfOk, not, slice_set}
-use Rattle.std.specs.List.{AllByRecursion, flat_map}
+use Rattle.std.specs.Prelude.{Option, Some, None, Result, Ok, Err, IfOk, not, option_map, slice_set}
+use Rattle.std.specs.List.{AllByRecursion}
 use Rattle.std.proofs.lemmas.Bool.{and_parts, cond_both, eqb-true}
 use Rattle.std.proofs.lemmas.Option.{same_Some}
 use Rattle.qx_types.specs.declared.errno.Errno.{Errno}
@@ -11,7 +11,6 @@ use Rattle.qx_types.specs.declared.names.Manager.{Manager}
 use Rattle.qx_types.specs.declared.names.Manager.TheVariants as manager
 use Rattle.qx_types.specs.declared.outcome.Answer.{Answer}
 use Rattle.qx_types.specs.declared.outcome.Answer.TheVariants as answer
-use Rattle.qx_types.specs.Managers.{managers}
 use Rattle.qx_wire.specs.declared.message.Meaning.{Meaning}
 use Rattle.qx_wire.specs.declared.message.Meaning.TheVariants.{Known}
 use Rattle.qx_wire.specs.declared.message.Message.TheVariants as msg
@@ -24,6 +23,8 @@ use Rattle.qx_isolation.specs.declared.rows.OwnItem.TheVariants as item
 use Rattle.qx_machine.specs.declared.rows.Over.{Over}
 use Rattle.qx_machine.specs.declared.rows.Over.TheVariants.{Existing, New, Side}
 use Rattle.qx_machine.specs.declared.rows.Sent.{Sent}
+use Rattle.qx_machine.specs.declared.rows.State.{State}
+use Rattle.qx_machine.specs.declared.rows.State.TheVariants as state
 use Rattle.qx_machine.specs.declared.rows.Target.{Target}
 use Rattle.qx_machine.specs.declared.rows.ThreadRow.{ThreadRow}
 use Rattle.qx_machine.specs.declared.rows.WaitingCall.{WaitingCall}
@@ -31,21 +32,21 @@ use Rattle.qx_machine.specs.Functions.{Deed, Reply, function_deed}
 use Rattle.qx_machine.specs.Inodes.{reads, writes}
 use Rattle.qx_isolation.specs.Judgements.{found, need}
 use Rattle.qx_machine.specs.Managers.{manager_deed, pipe_io}
-use Rattle.qx_machine.specs.Parts.{Part, Remove, disconnect, disconnects, with_process}
-use Rattle.qx_machine.specs.Performing.{Served, after_answer, after_message, context_of, deed_of, dup_of, opened_by, own_change, served_by, served_changes}
+use Rattle.qx_machine.specs.Parts.{Part, Remove, disconnect, disconnects, thread_at, thread_of, with_process}
+use Rattle.qx_machine.specs.Performing.{Served, after_answer, after_message, called_by, called_in, context_of, deed_of, dup_of, opened_by, own_change, served_by, served_changes}
 use Rattle.qx_machine.specs.PipeManager.{read_pipe, write_pipe}
 use Rattle.qx_machine.specs.Pipes.{PipeAfter, Pipe, and_then, clean, clean_read, clean_write, first_answered, fits, nobody_answered, pipe_of, portion, read, served, settle, waiting_unless, with_reader, with_writer, write}
-use Rattle.qx_machine.specs.Processes.{Process, answered_thread, lost_servers, served_thread, servers_at, with_thread}
+use Rattle.qx_machine.specs.Processes.{Process, answered_thread, served_state, served_thread, with_thread}
 use Rattle.qx_machine.specs.Resources.{Resources}
 use Rattle.qx_isolation.specs.Rows.{row_at}
-use Rattle.qx_machine.specs.Servers.{in_use, lost_by}
 use Rattle.qx_machine.specs.Waiting.{caller_in, Pipes, is_gone, offered, waiting_call, wanted}
 use Rattle.qx_machine.proofs.Gives.{Gives, found-row, gives_done, gives_on}
 use Rattle.qx_isolation.proofs.Places.{row_at-set_cases}
 use Rattle.qx_machine.proofs.Waiters.{InPipe, InPipes}
 use Rattle.qx_pipes.specs.Told.{is_alone, pipe_of_block, pipe_over, replied_alone, told_alone}
 use Rattle.qx_resources.proofs.ToldLemmas.{Asks}
-use Rattle.qx_chan.proofs.RowReads.{with_row-alike, with_row-twice}
+use Rattle.qx_chan.proofs.LostLemmas.{none-lost}
+use Rattle.qx_chan.proofs.RowReads.{row_at-with_same, with_row-alike, with_row-twice}
 
 -- ---- a pipe in which nobody waits
 
@@ -273,26 +274,31 @@ answered-part process thread given part = λ i. record part {
 
 -- ---- what is lost
 
--- nothing is lost where the same is in use
-lost_by-same : (manager : Manager) (number : Option ℕ) → lost_by manager number number ≡ []
-lost_by-same manager None = refl
-lost_by-same manager (Some number) = refl
-
--- lists that are all empty
-flat-none : {A B : Type 0} (each : A → List B) (xs : List A) → ((x : A) → each x ≡ []) → flat_map each xs ≡ []
-flat-none each [] none = refl
-flat-none each (x ∷ xs) none = (λ i. none x i ++ flat_map each xs) ∙ flat-none each xs none
-
--- a change of one thread leaves the server connections
-lost-none : (thread : ℕ) (change : ThreadRow → ThreadRow) (process : Process) → lost_servers process (with_thread thread change process) ≡ []
-lost-none thread change process =
-    let kept = λ (manager : Manager). in_use (servers_at manager process) in
-    flat-none (λ manager. lost_by manager (kept manager) (kept manager)) managers (λ manager. lost_by-same manager (kept manager))
-
--- so its process is told of no loss
+-- a change of one thread leaves the server connections, so its process is told of no loss
 disconnects-none : (number thread : ℕ) (change : ThreadRow → ThreadRow) (row : Option Process) → disconnects number (with_thread thread change) row ≡ []
 disconnects-none number thread change None = refl
-disconnects-none number thread change (Some process) = ap (λ lost. map (disconnect number) (take 1 lost)) (lost-none thread change process)
+disconnects-none number thread change (Some process) = ap (λ lost. map (disconnect number) (take 1 lost)) (none-lost process)
+
+-- ---- the manager that was called
+
+-- of a thread that is served the same
+called_by-served : (row : Option ThreadRow) → called_by (option_map served_thread row) ≡ called_by row
+called_by-served None = refl
+called_by-served (Some row) = by_state row.state
+  where
+    by_state : (s : State) → called_in (served_state s) ≡ called_in s
+    by_state state.Ready = refl
+    by_state (state.Queued sent) = refl
+    by_state (state.Taken sent) = refl
+    by_state (state.Waiting sent) = refl
+    by_state (state.Answered answer) = refl
+
+called-served : (part : Part) (process thread : ℕ) → called_by (thread_at (with_process process (with_thread thread served_thread) part) process thread) ≡ called_by (thread_at part process thread)
+called-served part process thread = ap (λ row. called_by (thread_of thread row)) (row_at-with_same part.processes process (with_thread thread served_thread)) ∙ by_process (row_at part.processes process)
+  where
+    by_process : (row : Option Process) → called_by (thread_of thread (option_map (with_thread thread served_thread) row)) ≡ called_by (thread_of thread row)
+    by_process None = refl
+    by_process (Some its) = ap called_by (row_at-with_same its.threads thread served_thread) ∙ called_by-served (row_at its.threads thread)
 
 -- ---- the step
 
@@ -300,7 +306,7 @@ disconnects-none number thread change (Some process) = ap (λ lost. map (disconn
 abbrev served_over : Part → Caller → Manager → Over → Result (Deed Resources) Errno → Served
 served_over part caller manager over given = record {
   part = after_answer part caller.process caller.thread over given;
-  changes = served_changes manager caller (disconnects caller.process (after_message caller.thread over given) (row_at part.processes caller.process)) given;
+  changes = served_changes (with_process caller.process (after_message caller.thread over given) part) manager caller (disconnects caller.process (after_message caller.thread over given) (row_at part.processes caller.process)) given;
 }
 
 -- a deed without a reply
@@ -308,7 +314,7 @@ abbrev unreplied_deed : Resources → List (WaitingCall × Answer) → Deed Reso
 unreplied_deed state answers = record { reply = None; state = state; answers = answers }
 
 -- the caller's call is answered with this, and nobody else is
-module _ (part : Part) (caller : Caller) (manager : Manager) (coid : Coid) (state : Resources) (call : WaitingCall) (status : ℕ) (bytes : List ℕ) (is : IsOf caller call) where
+module _ (part : Part) (caller : Caller) (manager : Manager) (called : called_by (thread_at part caller.process caller.thread) ≡ manager) (coid : Coid) (state : Resources) (call : WaitingCall) (status : ℕ) (bytes : List ℕ) (is : IsOf caller call) where
   -- what it is answered
   abbrev the_reply : Answer
   the_reply = answer.Reply status bytes
@@ -327,41 +333,48 @@ module _ (part : Part) (caller : Caller) (manager : Manager) (coid : Coid) (stat
       ((λ i. with_process (is.0 i) (with_thread (is.1.0 i) (answered_thread the_reply)) (with_process caller.process (with_thread caller.thread served_thread) (record part { resources = state })))
       ∙ answered-part caller.process caller.thread the_reply (record part { resources = state }))
 
+  -- the manager that the thread of the call had called
+  called_so : called_by (thread_at (with_process caller.process (with_thread caller.thread served_thread) part) call.process call.thread) ≡ manager
+  called_so =
+      (λ i. called_by (thread_at (with_process caller.process (with_thread caller.thread served_thread) part) (is.0 i) (is.1.0 i)))
+      ∙ (called-served part caller.process caller.thread ∙ called)
+
   -- the lines change in the same way
   told-changes : replied_so.changes ≡ answered_so.changes
   told-changes =
       (λ i. own_change manager caller ∷ (disconnects-none caller.process caller.thread (answered_thread the_reply) (row_at part.processes caller.process) i ++ []))
-      ∙ ((λ i. Remove manager (item.Unblock (sym is.0 i) (sym is.1.0 i) (sym is.1.1 i)) ∷ [])
-      ∙ (λ i. sym (disconnects-none caller.process caller.thread served_thread (row_at part.processes caller.process)) i ++ (Remove manager (item.Unblock call.process call.thread call.call) ∷ [])))
+      ∙ ((λ i. Remove (sym called_so i) (item.Unblock (sym is.0 i) (sym is.1.0 i) (sym is.1.1 i)) ∷ [])
+      ∙ (λ i. sym (disconnects-none caller.process caller.thread served_thread (row_at part.processes caller.process)) i
+      ++ (Remove (called_by (thread_at (with_process caller.process (with_thread caller.thread served_thread) part) call.process call.thread)) (item.Unblock call.process call.thread call.call) ∷ [])))
 
   -- so both come to the same
   told-one : replied_so ≡ answered_so
   told-one = λ i. record { part = told-part i; changes = told-changes i }
 
 -- whatever is answered, where it is to the caller's call
-told-answers : (part : Part) (caller : Caller) (manager : Manager) (coid : Coid) (state : Resources) (answers : List (WaitingCall × Answer)) → AllByRecursion (λ (a : WaitingCall × Answer). IsOf caller a.0) answers
+told-answers : (part : Part) (caller : Caller) (manager : Manager) → called_by (thread_at part caller.process caller.thread) ≡ manager → (coid : Coid) (state : Resources) (answers : List (WaitingCall × Answer)) → AllByRecursion (λ (a : WaitingCall × Answer). IsOf caller a.0) answers
     → served_over part caller manager (Existing coid) (Ok (replied_alone (unreplied_deed state answers) answers)) ≡ served_over part caller manager (Existing coid) (Ok (unreplied_deed state answers))
-told-answers part caller manager coid state [] own = refl
-told-answers part caller manager coid state ((call, answer.Reply status bytes) ∷ []) own = told-one part caller manager coid state call status bytes own.0
-told-answers part caller manager coid state ((call, answer.Reply status bytes) ∷ second ∷ rest) own = refl
-told-answers part caller manager coid state ((call, answer.Failed error) ∷ rest) own = refl
+told-answers part caller manager called coid state [] own = refl
+told-answers part caller manager called coid state ((call, answer.Reply status bytes) ∷ []) own = told-one part caller manager called coid state call status bytes own.0
+told-answers part caller manager called coid state ((call, answer.Reply status bytes) ∷ second ∷ rest) own = refl
+told-answers part caller manager called coid state ((call, answer.Failed error) ∷ rest) own = refl
 
 -- a deed without a reply, told so
-told-deed : (part : Part) (caller : Caller) (manager : Manager) (coid : Coid) (deed : Deed Resources) → deed.reply ≡ None → AllByRecursion (λ (a : WaitingCall × Answer). IsOf caller a.0) deed.answers
+told-deed : (part : Part) (caller : Caller) (manager : Manager) → called_by (thread_at part caller.process caller.thread) ≡ manager → (coid : Coid) (deed : Deed Resources) → deed.reply ≡ None → AllByRecursion (λ (a : WaitingCall × Answer). IsOf caller a.0) deed.answers
     → served_over part caller manager (Existing coid) (Ok (replied_alone deed deed.answers)) ≡ served_over part caller manager (Existing coid) (Ok deed)
-told-deed part caller manager coid deed none own =
+told-deed part caller manager called coid deed none own =
     let serves = λ (given : Deed Resources). served_over part caller manager (Existing coid) (Ok given) in
-    subst (λ (reply : Option Reply). serves (replied_alone (record deed { reply = reply }) deed.answers) ≡ serves (record deed { reply = reply })) (sym none) (told-answers part caller manager coid deed.state deed.answers own)
+    subst (λ (reply : Option Reply). serves (replied_alone (record deed { reply = reply }) deed.answers) ≡ serves (record deed { reply = reply })) (sym none) (told-answers part caller manager called coid deed.state deed.answers own)
 
 -- a message over what is open is served in the same way, told so
 pub told-serves : (part : Part) (caller : Caller) (sent : Sent) (coid : Coid) (r : Resources) (opened : Opened) (given : Result (Deed Resources) Errno)
-    → sent.target.over ≡ Existing coid → (caller_in opened) ≡ caller → LeavesOwn r opened given → served_by part caller sent (told_alone r opened given) ≡ served_by part caller sent given
-told-serves part caller sent coid r opened (Err error) over same h = refl
-told-serves part caller sent coid r opened (Ok deed) over same h =
+    → sent.target.over ≡ Existing coid → called_by (thread_at part caller.process caller.thread) ≡ sent.target.manager → (caller_in opened) ≡ caller → LeavesOwn r opened given → served_by part caller sent (told_alone r opened given) ≡ served_by part caller sent given
+told-serves part caller sent coid r opened (Err error) over called same h = refl
+told-serves part caller sent coid r opened (Ok deed) over called same h =
     cond_both (is_alone (pipe_over r opened)) (Ok (replied_alone deed deed.answers)) (Ok deed)
     (λ (told : Result (Deed Resources) Errno). served_by part caller sent told ≡ served_by part caller sent (Ok deed))
     (λ alone. subst (λ (way : Over). served_over part caller sent.target.manager way (Ok (replied_alone deed deed.answers)) ≡ served_over part caller sent.target.manager way (Ok deed)) (sym over)
-    (told-deed part caller sent.target.manager coid deed h.0 (subst (λ (who : Caller). AllByRecursion (λ (a : WaitingCall × Answer). IsOf who a.0) deed.answers) same (h.1 alone))))
+    (told-deed part caller sent.target.manager called coid deed h.0 (subst (λ (who : Caller). AllByRecursion (λ (a : WaitingCall × Answer). IsOf who a.0) deed.answers) same (h.1 alone))))
     (λ is_not. refl)
 
 -- ---- what is asked for

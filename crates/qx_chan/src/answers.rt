@@ -6,15 +6,14 @@ ghost use Rattle.qx_chan.specs.inner.Kept.{Answering, StandTogether};
 
 use crate::users::Users;
 use qx_shared::Shared;
-use qx_types::Manager;
 
 /// Gives each thread whose call waited and was answered its answer, with the room for its replies, unless the answer took
-/// that along; an unblock pulse of the call is in the pipe manager's line no more (C Library Reference: `MsgReply`).
+/// that along; an unblock pulse of the call is in the line of the manager that was called no more (C Library Reference: `MsgReply`).
 #[inline(always)]
 pub fn give_answers(users: &mut Users, queues: &mut Shared)
     requires answering { Answering users.old queues.old }
     ensures users { users.new ≡ given_users users.old queues.old.answered }
-    ensures queues { queues.new ≡ record queues.old { lines = given_lines queues.old.lines queues.old.answered; answered = [] } }
+    ensures queues { queues.new ≡ record queues.old { lines = given_lines users.old queues.old.lines queues.old.answered; answered = [] } }
     ensures kept { StandTogether users.new queues.new }
 {
     if queues.has_answered() {
@@ -26,11 +25,11 @@ pub fn give_answers(users: &mut Users, queues: &mut Shared)
 fn give_all(users: &mut Users, queues: &mut Shared)
     requires answering { Answering users.old queues.old }
     ensures users { users.new ≡ given_users users.old queues.old.answered }
-    ensures queues { queues.new ≡ record queues.old { lines = given_lines queues.old.lines queues.old.answered; answered = [] } }
+    ensures queues { queues.new ≡ record queues.old { lines = given_lines users.old queues.old.lines queues.old.answered; answered = [] } }
     ensures kept { StandTogether users.new queues.new }
 {
     while let Some(taken) = queues.take_answered() {
-        users.answer(taken.thread, taken.answer, taken.room);
-        queues.reply(Manager::Pipe, taken.thread, taken.call);
+        let called = users.answer(taken.thread, taken.answer, taken.room);
+        queues.reply(called, taken.thread, taken.call);
     }
 }

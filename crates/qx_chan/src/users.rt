@@ -6,6 +6,7 @@ ghost use Rattle.std.specs.Borrow.{sem};
 ghost use Rattle.qx_types.specs.declared.limits.TheConstants.Limits.{PROCESSES};
 ghost use Rattle.qx_types.specs.declared.outcome.Answer.TheVariants.{Failed};
 ghost use Rattle.qx_machine.specs.Clients.{spawn_number};
+ghost use Rattle.qx_machine.specs.Performing.{called_by};
 ghost use Rattle.qx_machine.specs.Processes.{answered_thread, asked_thread, ended, living, taken_thread, without_server};
 ghost use Rattle.qx_isolation.specs.Rows.{row_at, with_row};
 ghost use Rattle.qx_process.specs.Reads.{BringsRoom};
@@ -18,7 +19,7 @@ use qx_hint::as_mut_unchecked;
 use qx_machine::{Over, ServerName};
 use qx_process::{LostServers, Process, Room, ThreadCell, places};
 use qx_procs::Processes;
-use qx_types::{Answer, Errno, Prio, Proc, Thread, User};
+use qx_types::{Answer, Errno, Manager, Prio, Proc, Thread, User};
 use std::alloc::{AllocError, Global};
 use std::marker::Model;
 
@@ -164,15 +165,19 @@ impl Users {
         self.thread_there(thread).ask_unblock()
     }
 
-    /// A thread whose call waited gets the answer, with the room for its replies, unless the answer took that along.
+    /// A thread whose call waited gets the answer, with the room for its replies, unless the answer took that along. Gives the
+    /// manager that it had called.
     #[tactic(auto, using(crate::proofs::ProcessLemmas::lends))]
-    pub fn answer(&mut self, thread: Thread, answer: Answer, room: Option<Room>)
+    pub fn answer(&mut self, thread: Thread, answer: Answer, room: Option<Room>) -> Manager
+        requires there { IsSome (thread_row self.old thread) }
         requires room { BringsRoom answer room (thread_row self.old thread) }
+        ensures called { result ≡ called_by (thread_row self.old thread) }
         ensures answered { self.new ≡ with_thread_row self.old thread (answered_thread answer) }
     {
-        if let Some(cell) = self.thread_mut(thread) {
-            cell.answer(answer, room);
-        }
+        let cell = self.thread_there(thread);
+        let called = cell.called();
+        cell.answer(answer, room);
+        called
     }
 
     /// A thread gets an error, which gives back what its call attached, with the room for its replies where that had gone.

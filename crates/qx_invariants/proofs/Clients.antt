@@ -10,13 +10,13 @@ use Rattle.qx_types.specs.declared.errno.Errno.{Errno}
 use Rattle.qx_types.specs.declared.errno.Errno.TheVariants.{EBADF, EINTR, EINVAL}
 use Rattle.qx_types.specs.declared.names.Coid.{Coid}
 use Rattle.qx_types.specs.declared.names.Manager.{Manager}
-use Rattle.qx_types.specs.declared.names.Manager.TheVariants as managers
 use Rattle.qx_types.specs.declared.names.Thread.{Thread}
 use Rattle.qx_types.specs.declared.outcome.Answer.TheVariants as answer
 use Rattle.qx_types.specs.declared.outcome.Outcome.TheVariants.{Refused, WrongState}
 use Rattle.qx_types.specs.declared.request.Request.{Request}
 use Rattle.qx_types.specs.declared.step.Step.{Step}
 use Rattle.qx_types.specs.declared.step.Step.TheVariants.{Spawn, Exit, Call, TakeReply, TakePulse, SetPrio, Interrupt, Mount}
+use Rattle.qx_types.proofs.Managers.{number_below, same_manager}
 use Rattle.qx_wire.specs.Reading.{meaning}
 use Rattle.qx_paths.specs.Prefixes.{MountPoint}
 use Rattle.qx_machine.specs.declared.rows.Addressed.{Addressed}
@@ -71,7 +71,7 @@ use Rattle.qx_invariants.proofs.Managed.{HoldsKinds, IsMounted, boot_kinds, kind
 use Rattle.qx_invariants.proofs.Once.{Stands, left-at, may_call-ready, spawn_free, stands_boot, stands_kept, taken_is}
 use Rattle.qx_invariants.proofs.Rows.{the-some, with_row-at, with_row-other, with_row-was}
 use Rattle.qx_invariants.proofs.Sending.{IsAddressed, Quietens, addressed-gives, mounted_sends, quiet_sends, target_in, target_of, target_of_row, unopened_at}
-use Rattle.qx_invariants.proofs.Served.{IsServed, KeepsServers, any_there, connection_served, freed_served, in_use_there, numbered, or-true, serves}
+use Rattle.qx_invariants.proofs.Served.{IsServed, KeepsServers, any_there, connection_served, freed_served, in_use_there, or-true, serves}
 use Rattle.qx_invariants.proofs.Sound.{AllSound, Continues, FitsEffect, IsSound, answers_continue, continues_then, continues_with, ended_sound, error_sound, queued_sound, reply_sound, server_stays, spawn_continues, thread_continues, thread_sound}
 use Rattle.qx_invariants.proofs.Steps.{answers-resources, deed_kept, kept-keeps, mount_by-gives, unchanged-keeps, IsKept}
 use Rattle.qx_invariants.proofs.Together.{none_there}
@@ -241,7 +241,7 @@ pulse_clientele part stands h process thread number moment =
 without_serves : (process : Process) → IsServed process → (server : ServerName) (manager : Manager) (number : ℕ) → ((manager_number manager == manager_number server.manager) ≡ true → number ≢ server.number) → serves process manager number ≡ true → serves (without_server server process) manager number ≡ true
 without_serves process h server manager number apart there = elim (cases_eq (manager_number manager) (manager_number server.manager)) [
   | inl same ↦
-      let within = numbered server.manager in
+      let within = number_below server.manager in
       let long = h.count in
       let at = line_at-here process.servers (manager_number server.manager) (without_left server.number) (omega (arith, within, long)) in
       ap (λ n. is_some (row_at (line_at (without_server server process).servers n) number)) same ∙ (ap (λ servers. is_some (row_at servers number)) at
@@ -252,12 +252,6 @@ without_serves process h server manager number apart there = elim (cases_eq (man
     kept : (servers : Servers) → number ≢ server.number → is_some (row_at (without_left server.number servers) number) ≡ is_some (row_at servers number)
     kept servers differs = cond_both (is_left (row_at servers server.number)) (slice_set servers server.number None) servers (λ now. is_some (row_at now number) ≡ is_some (row_at servers number))
         (λ left. ap is_some (row_at-set_other servers server.number number None differs)) (λ used. refl)
-
-pub same_manager : (one other : Manager) → manager_number one ≡ manager_number other → one ≡ other
-same_manager managers.Ram managers.Ram is = refl
-same_manager managers.Pipe managers.Pipe is = refl
-same_manager managers.Ram managers.Pipe is = absurd (omega (arith, is))
-same_manager managers.Pipe managers.Ram is = absurd (omega (arith, is))
 
 -- ---- which client
 

@@ -6,6 +6,7 @@ use Rattle.std.proofs.lemmas.Bool.{eq-eqb, eqb-true, ne_eqb}
 use Rattle.std.proofs.lemmas.Option.{same_Some}
 use Rattle.qx_types.specs.Managers.{manager_number}
 use Rattle.qx_types.specs.declared.names.Coid.{Coid}
+use Rattle.qx_types.proofs.Managers.{same_manager}
 use Rattle.qx_wire.specs.declared.message.Meaning.{Meaning}
 use Rattle.qx_machine.specs.declared.rows.Caller.{Caller}
 use Rattle.qx_machine.specs.declared.rows.Client.{Client}
@@ -33,7 +34,7 @@ use Rattle.qx_attr.specs.inner.Counts.{one}
 use Rattle.qx_attr.proofs.CountLemmas.{count-free}
 use Rattle.qx_invariants.specs.Changes.{Closes, Moves, OneLess, ResourceChange, WithLast}
 use Rattle.qx_invariants.specs.Holds.{HasOwnWaiters, IsOpenFor, has_open, is_block}
-use Rattle.qx_invariants.proofs.Clients.{IsOver, StandsWell, opened_by-over, row_lives, same_manager}
+use Rattle.qx_invariants.proofs.Clients.{IsOver, StandsWell, opened_by-over, row_lives}
 use Rattle.qx_invariants.proofs.Connected.{Connected, has_counts, held_there, none_counts, none_held, open_held}
 use Rattle.qx_invariants.proofs.Holdings.{AreFresh, Holding, after_seen, holding, holding_of, one_less, one_more}
 use Rattle.qx_invariants.proofs.Items.{puts}

@@ -1,12 +1,12 @@
 -- Server connections that were left, and the disconnect pulses of those that a process loses.
-use Rattle.std.proofs.Common.{◌≡◌, ◌≢◌, ◌⊎◌, inl, inr, ℕ, ◌+◌, ◌≤◌, ◌==◌, Bool, true, false, List, [], ◌∷◌, ◌++◌, map, refl, sym, ap, ◌∙◌, arith}
+use Rattle.std.proofs.Common.{◌≡◌, ◌≢◌, ◌⊎◌, inl, inr, ℕ, ◌+◌, ◌≤◌, ◌==◌, Bool, true, false, List, [], ◌∷◌, map, refl, sym, ap, ◌∙◌, arith}
 use Rattle.std.specs.Prelude.{◌&&◌, not, Option, Some, None, is_some, option_map, take}
-use Rattle.std.specs.List.{count_by}
+use Rattle.std.specs.List.{count_by, flat_map}
 use Rattle.std.proofs.lemmas.Bool.{cond_both, ne_eqb}
 use Rattle.std.proofs.lemmas.List.Sums.{sum_by-append, sum_by-take-le}
 use Rattle.qx_types.specs.Managers.{manager_number}
 use Rattle.qx_types.specs.declared.names.Manager.{Manager}
-use Rattle.qx_types.specs.declared.names.Manager.TheVariants.{Ram, Pipe}
+use Rattle.qx_types.proofs.Managers.{at_one}
 use Rattle.qx_machine.specs.declared.rows.Client.{Client}
 use Rattle.qx_machine.specs.declared.rows.ServerConnection.{ServerConnection}
 use Rattle.qx_isolation.specs.declared.rows.ServerName.{ServerName}
@@ -85,18 +85,18 @@ module _ (number : ℕ) (client : Client) where
   pub puts_others : (lost : List ServerName) → number ≢ client.process → puts client (map (disconnect number) lost) ≡ 0
   puts_others lost apart = puts-map lost ∙ others_none lost apart
 
-  -- at one manager the client's is named, which was in use and is not, or none
-  abbrev IsLost : Manager → Option ℕ → Option ℕ → Type 0
-  IsLost manager used now = (manager ≡ client.server.manager) × (used ≡ Some client.server.number) × (now ≡ None)
+  -- at one manager the client's is not named, or once, and then it was in use and is not
+  abbrev IsLostOnce : Manager → Option ℕ → Option ℕ → Type 0
+  IsLostOnce manager used now = (count_by is_its (lost_by manager used now) ≡ 0) ⊎ ((count_by is_its (lost_by manager used now) ≡ 1) × (manager ≡ client.server.manager) × (used ≡ Some client.server.number) × (now ≡ None))
 
-  lost_one : (manager : Manager) (used now : Option ℕ) → (count_by is_its (lost_by manager used now) ≡ 0) ⊎ ((count_by is_its (lost_by manager used now) ≡ 1) × IsLost manager used now)
+  lost_one : (manager : Manager) (used now : Option ℕ) → IsLostOnce manager used now
   lost_one manager (Some n) None = by (is_its (record { manager = manager; number = n })) refl
     where
-      by : (b : Bool) → is_its (record { manager = manager; number = n }) ≡ b → (count_by is_its (record { manager = manager; number = n } ∷ []) ≡ 0) ⊎ ((count_by is_its (record { manager = manager; number = n } ∷ []) ≡ 1) × IsLost manager (Some n) None)
+      by : (b : Bool) → is_its (record { manager = manager; number = n }) ≡ b → IsLostOnce manager (Some n) None
       by false is = inl (count-cons is_its (record { manager = manager; number = n }) [] ∙ ap (λ b. one b + 0) is)
       by true is =
           let same = same_client (record { process = number; server = record { manager = manager; number = n } }) client is in
-          inr (count-cons is_its (record { manager = manager; number = n }) [] ∙ ap (λ b. one b + 0) is, (same.manager, ap Some same.number, refl))
+          inr (count-cons is_its (record { manager = manager; number = n }) [] ∙ ap (λ b. one b + 0) is, same.manager, ap Some same.number, refl)
   lost_one manager (Some n) (Some m) = inl refl
   lost_one manager None now = inl refl
 
@@ -107,25 +107,15 @@ module _ (number : ℕ) (client : Client) where
     abbrev used_now : Manager → Option ℕ
     used_now manager = in_use (servers_at manager now)
 
-    lost_both : count_by is_its (lost_servers process now) ≡ count_by is_its (lost_by Ram (used_before Ram) (used_now Ram)) + count_by is_its (lost_by Pipe (used_before Pipe) (used_now Pipe))
-    lost_both =
-        let first = sum_by-append (λ server. one (is_its server)) (lost_by Ram (used_before Ram) (used_now Ram)) (lost_by Pipe (used_before Pipe) (used_now Pipe) ++ []) in
-        let second = sum_by-append (λ server. one (is_its server)) (lost_by Pipe (used_before Pipe) (used_now Pipe)) [] in
-        omega (arith, first, second)
+    abbrev lost_at : Manager → List ServerName
+    lost_at manager = lost_by manager (used_before manager) (used_now manager)
 
-    lost_cases : (count_by is_its (lost_servers process now) ≡ 0) ⊎ ((count_by is_its (lost_servers process now) ≡ 1) × (used_before client.server.manager ≡ Some client.server.number) × (used_now client.server.manager ≡ None))
-    lost_cases = by (lost_one Ram (used_before Ram) (used_now Ram)) (lost_one Pipe (used_before Pipe) (used_now Pipe))
-      where
-        at : (manager : Manager) → IsLost manager (used_before manager) (used_now manager) → (used_before client.server.manager ≡ Some client.server.number) × (used_now client.server.manager ≡ None)
-        at manager is = (ap used_before (sym is.0) ∙ is.1, ap used_now (sym is.0) ∙ is.2)
-
-        by : (count_by is_its (lost_by Ram (used_before Ram) (used_now Ram)) ≡ 0) ⊎ ((count_by is_its (lost_by Ram (used_before Ram) (used_now Ram)) ≡ 1) × IsLost Ram (used_before Ram) (used_now Ram))
-            → (count_by is_its (lost_by Pipe (used_before Pipe) (used_now Pipe)) ≡ 0) ⊎ ((count_by is_its (lost_by Pipe (used_before Pipe) (used_now Pipe)) ≡ 1) × IsLost Pipe (used_before Pipe) (used_now Pipe))
-            → (count_by is_its (lost_servers process now) ≡ 0) ⊎ ((count_by is_its (lost_servers process now) ≡ 1) × (used_before client.server.manager ≡ Some client.server.number) × (used_now client.server.manager ≡ None))
-        by (inl ram) (inl pipe) = inl (omega (arith, lost_both, ram, pipe))
-        by (inr ram) (inl pipe) = (let its = at Ram ram.1 in inr (omega (arith, lost_both, ram.0, pipe), its.0, its.1))
-        by (inl ram) (inr pipe) = (let its = at Pipe pipe.1 in inr (omega (arith, lost_both, ram, pipe.0), its.0, its.1))
-        by (inr ram) (inr pipe) = let clash : Ram ≡ Pipe = ram.1.0 ∙ sym pipe.1.0 in absurd (cc)
+    -- of all that it loses only what it loses at the client's manager is the client's
+    lost_own : count_by is_its (lost_servers process now) ≡ count_by is_its (lost_at client.server.manager)
+    lost_own = at_one (λ some. count_by is_its (flat_map lost_at some)) (λ manager told. count_by is_its (lost_at manager) + told)
+        (λ manager rest. sum_by-append (λ server. one (is_its server)) (lost_at manager) (flat_map lost_at rest)) client.server.manager
+        (λ other told apart. elim (lost_one other (used_before other) (used_now other)) [ inl none ↦ omega (arith, none) | inr its ↦ absurd (apart (ap manager_number its.1)) ])
+        ∙ omega arith
 
     -- each that is lost is left, and was in use
     module _ (again : IsResettled process now) (h : IsServed process) where
@@ -146,15 +136,15 @@ module _ (number : ℕ) (client : Client) where
           by false is = omega arith
 
       lost_all : count_by is_its (lost_servers process now) + one (left_of client.server (Some process)) ≤ one (left_of client.server (Some now))
-      lost_all = by lost_cases
+      lost_all = by (lost_one client.server.manager (used_before client.server.manager) (used_now client.server.manager))
         where
-          by : (count_by is_its (lost_servers process now) ≡ 0) ⊎ ((count_by is_its (lost_servers process now) ≡ 1) × (used_before client.server.manager ≡ Some client.server.number) × (used_now client.server.manager ≡ None)) → count_by is_its (lost_servers process now) + one (left_of client.server (Some process)) ≤ one (left_of client.server (Some now))
-          by (inl none) = omega (arith, none, more_left)
+          by : IsLostOnce client.server.manager (used_before client.server.manager) (used_now client.server.manager) → count_by is_its (lost_servers process now) + one (left_of client.server (Some process)) ≤ one (left_of client.server (Some now))
+          by (inl none) = omega (arith, lost_own, none, more_left)
           by (inr lost) =
-              let before : one (left_of client.server (Some process)) ≡ 0 = ap one (used_not_left (row_at (servers_at client.server.manager process) client.server.number) (in_use_there (servers_at client.server.manager process) client.server.number lost.1).0) in
-              let left = while_lost attaches (servers_at client.server.manager process) client.server.number lost.1 (ap in_use (sym at_now) ∙ lost.2) in
+              let before : one (left_of client.server (Some process)) ≡ 0 = ap one (used_not_left (row_at (servers_at client.server.manager process) client.server.number) (in_use_there (servers_at client.server.manager process) client.server.number lost.2).0) in
+              let left = while_lost attaches (servers_at client.server.manager process) client.server.number lost.2 (ap in_use (sym at_now) ∙ lost.3) in
               let now_is : one (left_of client.server (Some now)) ≡ 1 = ap one (ap (λ servers. is_left (row_at servers client.server.number)) at_now ∙ left) in
-              omega (arith, lost.0, before, now_is)
+              omega (arith, lost_own, lost.0, before, now_is)
 
       pub lost_left : puts client (map (disconnect number) (lost_servers process now)) + one (left_of client.server (Some process)) ≤ one (left_of client.server (Some now))
       lost_left = let named = puts-map (lost_servers process now) in let all = lost_all in omega (arith, named, all)

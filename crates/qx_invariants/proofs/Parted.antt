@@ -9,9 +9,9 @@ use Rattle.std.proofs.lemmas.Option.{unwrap_or-slice_get}
 use Rattle.qx_types.specs.Configuration.{Configuration}
 use Rattle.qx_types.specs.Managers.{manager_number}
 use Rattle.qx_types.specs.declared.names.Manager.{Manager}
-use Rattle.qx_types.specs.declared.names.Manager.TheVariants as managers
 use Rattle.qx_types.specs.declared.outcome.Outcome.{Outcome}
 use Rattle.qx_types.specs.declared.outcome.Outcome.TheVariants.{WrongState}
+use Rattle.qx_types.proofs.Managers.{number_below}
 use Rattle.qx_machine.specs.declared.rows.Client.{Client}
 use Rattle.qx_machine.specs.declared.rows.Ocb.{Ocb}
 use Rattle.qx_isolation.specs.declared.rows.OwnItem.{OwnItem}
@@ -23,7 +23,7 @@ use Rattle.qx_machine.specs.Inodes.{blocks_of_client, is_clients, is_same_client
 use Rattle.qx_isolation.specs.Judgements.{found}
 use Rattle.qx_isolation.specs.Lines.{line_at}
 use Rattle.qx_machine.specs.Managers.{close_client}
-use Rattle.qx_machine.specs.Parts.{Part}
+use Rattle.qx_machine.specs.Parts.{Part, with_process}
 use Rattle.qx_machine.specs.Performing.{Served, answered_changes, or_kept, serve_disconnect, with_answers}
 use Rattle.qx_machine.specs.Processes.{Process, has_ended, servers_at, taken_thread, with_thread, without_server}
 use Rattle.qx_machine.specs.Resources.{Resources}
@@ -48,7 +48,7 @@ use Rattle.qx_invariants.proofs.Made.{client_blocks}
 use Rattle.qx_invariants.proofs.Once.{left-at}
 use Rattle.qx_invariants.proofs.Replied.{ServedWith, answered_none, answers_connected, message_connected, unblock_connected}
 use Rattle.qx_invariants.proofs.Rows.{with_row-at, with_row-other, with_row-was}
-use Rattle.qx_invariants.proofs.Served.{IsServed, in_use_there, numbered}
+use Rattle.qx_invariants.proofs.Served.{IsServed, in_use_there}
 
 -- ---- a server connection that was left goes
 
@@ -75,7 +75,7 @@ without_other servers number m apart =
 module _ (process : Process) (served : IsServed process) where
   freed_here : (server : ServerName) (manager : Manager) → manager_number manager ≡ manager_number server.manager → servers_at manager (without_server server process) ≡ without_left server.number (servers_at manager process)
   freed_here server manager same =
-      let within = numbered server.manager in
+      let within = number_below server.manager in
       let long = served.count in
       ap (line_at (without_server server process).servers) same ∙ (line_at-here process.servers (manager_number server.manager) (without_left server.number) (omega (arith, within, long)) ∙ ap (λ n. without_left server.number (line_at process.servers n)) (sym same))
 
@@ -206,7 +206,7 @@ module _ (part : Part) (named : Client → ℕ) (well : StandsWell part) (client
   disconnect_connected =
       gives_on _ (found (row_at part.processes client.process) WrongState) _ (λ process is_process.
       let mid : Part = record { processes = freed; resources = deed.state } in
-      gives_done _ _ (fewer_connected (with_answers deed.answers mid) named (λ own. named own + puts own (answered_changes managers.Pipe deed.answers)) (λ own. let none = answered_none own managers.Pipe deed.answers in omega (arith, none)) (answers_connected deed.answers mid named parted)))
+      gives_done _ _ (fewer_connected (with_answers deed.answers mid) named (λ own. named own + puts own (answered_changes deed.answers (with_process client.process (without_server client.server) part))) (λ own. let none = answered_none own deed.answers (with_process client.process (without_server client.server) part) in omega (arith, none)) (answers_connected deed.answers mid named parted)))
 
 -- ---- what a worker does
 

@@ -31,12 +31,13 @@ use Rattle.qx_isolation.specs.declared.rows.OwnItem.TheVariants as item
 use Rattle.qx_machine.specs.declared.rows.Sent.{Sent}
 use Rattle.qx_machine.specs.declared.rows.ThreadRow.{ThreadRow}
 use Rattle.qx_machine.specs.declared.rows.WaitingCall.{WaitingCall}
-use Rattle.qx_machine.specs.Functions.{Deed, Reply, new_coid, new_dup}
+use Rattle.qx_machine.specs.Defaults.{dup_open}
+use Rattle.qx_machine.specs.Functions.{Deed, Reply, function_deed, new_coid, new_dup}
 use Rattle.qx_machine.specs.Inodes.{dup_block}
 use Rattle.qx_isolation.specs.Judgements.{found}
 use Rattle.qx_machine.specs.Managers.{manager_deed}
-use Rattle.qx_machine.specs.Parts.{Change, Part, Remove, disconnects, with_process}
-use Rattle.qx_machine.specs.Performing.{Served, after_serving, answered_changes, caller_of, context_of, deed_of, dup_of, own_change, serve_message, serve_pulse, served_by, taken_in, with_answers, works_over}
+use Rattle.qx_machine.specs.Parts.{Change, Part, Remove, disconnects, thread_at, with_process}
+use Rattle.qx_machine.specs.Performing.{Served, after_serving, answered_changes, called_by, caller_of, context_of, deed_of, dup_of, own_change, serve_message, serve_pulse, served_by, taken_in, with_answer, with_answers, works_over}
 use Rattle.qx_machine.specs.PipeManager.{cancel_call}
 use Rattle.qx_machine.specs.Processes.{Process, after_error, after_reply, answered_thread, has_ended, served_thread, with_thread}
 use Rattle.qx_machine.specs.Resources.{Resources}
@@ -73,39 +74,41 @@ gives_every Q (Err error) h = gives_error _ _
 abbrev ClosesOwn : Meaning → Option Reply → Type 0
 ClosesOwn given reply = (its : Reply) (coid : Coid) → reply ≡ Some its → its.effect ≡ effect.Closes coid → dup_of given ≡ None
 
+-- one that names it opens
+dup_opens : (r : Resources) (context : Context) (old : Coid) → Gives (λ (deed : Deed Resources). ClosesOwn (Known (msg.Dup old)) deed.reply) (function_deed (Some dup_open) (new_dup context) (λ f dup. f r dup))
+dup_opens r context old =
+    gives_on _ (new_dup context) _ (λ dup is. gives_on _ (dup_block r.inodes dup.old.number) _ (λ inodes was. gives_done _ _ (λ its coid same closes.
+    let clash : effect.Opens dup.coid dup.old.number ≡ effect.Closes coid = ap (λ (reply : Reply). reply.effect) (same_Some _ _ same) ∙ closes in absurd (cc))))
+
 closes_own : (r : Resources) (context : Context) (given : Meaning) → Gives (λ (deed : Deed Resources). ClosesOwn given deed.reply) (deed_of r context given)
 closes_own r context (Known message) = by context.target.manager message
   where
     by : (manager : Manager) (message : Message) → Gives (λ (deed : Deed Resources). ClosesOwn (Known message) deed.reply) (manager_deed manager r context message)
-    by managers.Ram (msg.Dup old) =
-        gives_on _ (new_dup context) _ (λ dup is. gives_on _ (dup_block r.inodes dup.old.number) _ (λ inodes was. gives_done _ _ (λ its coid same closes.
-        let clash : effect.Opens dup.coid dup.old.number ≡ effect.Closes coid = ap (λ (reply : Reply). reply.effect) (same_Some _ _ same) ∙ closes in absurd (cc))))
-    by managers.Pipe (msg.Dup old) =
-        gives_on _ (new_dup context) _ (λ dup is. gives_on _ (dup_block r.inodes dup.old.number) _ (λ inodes was. gives_done _ _ (λ its coid same closes.
-        let clash : effect.Opens dup.coid dup.old.number ≡ effect.Closes coid = ap (λ (reply : Reply). reply.effect) (same_Some _ _ same) ∙ closes in absurd (cc))))
+    by managers.Ram (msg.Dup old) = dup_opens r context old
+    by managers.Pipe (msg.Dup old) = dup_opens r context old
     by manager _ = gives_every _ _ (λ deed its coid same closes. refl)
 closes_own r context Unknown = gives_every _ _ (λ deed its coid same closes. refl)
 closes_own r context Malformed = gives_every _ _ (λ deed its coid same closes. refl)
 
 -- ---- what is put into lines
 
-pub answered_none : (client : Client) (manager : Manager) (answers : List (WaitingCall × Answer)) → puts client (answered_changes manager answers) ≡ 0
-answered_none client manager [] = refl
-answered_none client manager (first ∷ answers) =
-    let all = count-cons (is_put_pulse client) (Remove manager (item.Unblock first.0.process first.0.thread first.0.call)) (answered_changes manager answers) in
-    let rest = answered_none client manager answers in
+pub answered_none : (client : Client) (answers : List (WaitingCall × Answer)) (part : Part) → puts client (answered_changes answers part) ≡ 0
+answered_none client [] part = refl
+answered_none client (first ∷ answers) part =
+    let all = count-cons (is_put_pulse client) (Remove (called_by (thread_at part first.0.process first.0.thread)) (item.Unblock first.0.process first.0.thread first.0.call)) (answered_changes answers (with_answer first part)) in
+    let rest = answered_none client answers (with_answer first part) in
     omega (arith, all, rest)
 
 -- as a message is served, nothing but what its process lost
-served_puts : (client : Client) (manager : Manager) (caller : Caller) (lost : List Change) (answers : List (WaitingCall × Answer)) (replied : Bool) → puts client ((if replied then own_change manager caller ∷ [] else []) ++ lost ++ answered_changes manager answers) ≡ puts client lost
-served_puts client manager caller lost answers true =
-    let first = count-cons (is_put_pulse client) (own_change manager caller) (lost ++ answered_changes manager answers) in
-    let both = sum_by-append (λ change. one (is_put_pulse client change)) lost (answered_changes manager answers) in
-    let none = answered_none client manager answers in
+served_puts : (part : Part) (client : Client) (manager : Manager) (caller : Caller) (lost : List Change) (answers : List (WaitingCall × Answer)) (replied : Bool) → puts client ((if replied then own_change manager caller ∷ [] else []) ++ lost ++ answered_changes answers part) ≡ puts client lost
+served_puts part client manager caller lost answers true =
+    let first = count-cons (is_put_pulse client) (own_change manager caller) (lost ++ answered_changes answers part) in
+    let both = sum_by-append (λ change. one (is_put_pulse client change)) lost (answered_changes answers part) in
+    let none = answered_none client answers part in
     omega (arith, first, both, none)
-served_puts client manager caller lost answers false =
-    let both = sum_by-append (λ change. one (is_put_pulse client change)) lost (answered_changes manager answers) in
-    let none = answered_none client manager answers in
+served_puts part client manager caller lost answers false =
+    let both = sum_by-append (λ change. one (is_put_pulse client change)) lost (answered_changes answers part) in
+    let none = answered_none client answers part in
     omega (arith, both, none)
 
 -- ---- answers
@@ -215,7 +218,7 @@ module _ (part : Part) (named : Client → ℕ) (well : StandsWell part) (h : Co
       let loses = subst (λ place. Loses number process (f process) (disconnects number f place)) (sym is_process) (loses_once number process (f process) (serving_resettled deed.reply) its_sound.served) in
       let moved = done_moved deed.state k.seen k.came held.rows held.fresh held.few k.kept.holds.waiters deed.reply k.own k.effect only in
       fewer_connected (with_answers deed.answers mid) (λ own. named own + puts own lost) (λ own. named own + puts own (served_by part caller sent (Ok deed)).changes)
-      (λ own. let same : puts own (served_by part caller sent (Ok deed)).changes ≡ puts own lost = served_puts own sent.target.manager caller lost deed.answers (is_some deed.reply) in omega (arith, same))
+      (λ own. let same : puts own (served_by part caller sent (Ok deed)).changes ≡ puts own lost = served_puts (with_process number f part) own sent.target.manager caller lost deed.answers (is_some deed.reply) in omega (arith, same))
       (answers_connected deed.answers mid (λ own. named own + puts own lost) (moved_connected part named h number process is_process f deed.state lost loses moved))
   served_connected (Err error) kept closes =
       let change : ThreadRow → ThreadRow = answered_thread (answer.Failed error) in
@@ -263,5 +266,5 @@ unblock_connected part named well h process thread number moment =
     let held = kept.held refl in
     let mid : Part = record part { resources = deed.state } in
     let waiters = waiters_after part.resources deed.state [] h.waiters kept.holds.waiters held.few (same_stay part.resources deed.state held.rows) refl in
-    gives_done _ _ (fewer_connected (with_answers deed.answers mid) named (λ own. named own + puts own (answered_changes managers.Pipe deed.answers)) (λ own. let none = answered_none own managers.Pipe deed.answers in omega (arith, none))
+    gives_done _ _ (fewer_connected (with_answers deed.answers mid) named (λ own. named own + puts own (answered_changes deed.answers part)) (λ own. let none = answered_none own deed.answers part in omega (arith, none))
     (answers_connected deed.answers mid named (rested_connected part named h deed.state held.rows waiters))))

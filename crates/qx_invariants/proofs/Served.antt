@@ -8,8 +8,8 @@ use Rattle.std.proofs.lemmas.List.Quantifiers.{position-Some}
 use Rattle.std.proofs.lemmas.Option.{unwrap_or-slice_get}
 use Rattle.qx_types.specs.Managers.{manager_number}
 use Rattle.qx_types.specs.declared.names.Manager.{Manager}
-use Rattle.qx_types.specs.declared.names.Manager.TheVariants.{Ram, Pipe}
 use Rattle.qx_types.specs.declared.names.TheConstants.Manager.{COUNT}
+use Rattle.qx_types.proofs.Managers.{number_below}
 use Rattle.qx_machine.specs.declared.rows.Connection.{Connection}
 use Rattle.qx_machine.specs.declared.rows.Effect.{Effect}
 use Rattle.qx_machine.specs.declared.rows.Effect.TheVariants.{Closes, Keeps, Opens}
@@ -78,10 +78,6 @@ length-from : (attaches : ℕ → Bool) (first : ℕ) (all : List Servers) → l
 length-from attaches first [] = refl
 length-from attaches first (servers ∷ all) = ap suc (length-from attaches (first + 1) all)
 
-pub numbered : (manager : Manager) → manager_number manager < COUNT
-numbered Ram = omega arith
-numbered Pipe = omega arith
-
 -- ---- a process changes
 
 -- its server connections are settled by what is attached then
@@ -100,7 +96,7 @@ module _ (process now : Process) (again : IsResettled process now) where
     }
 
     here : (manager : Manager) → manager_number manager < length process.servers
-    here manager = let within = numbered manager in let long = h.count in omega (arith, within, long)
+    here manager = let within = number_below manager in let long = h.count in omega (arith, within, long)
 
     pub resettled_at : (manager : Manager) → servers_at manager now ≡ servers_while (attached now (manager_number manager)) (servers_at manager process)
     resettled_at manager =
@@ -181,6 +177,6 @@ connection_attached process coid connection there =
 -- and a server connection is in use there
 pub connection_served : (process : Process) (coid : ℕ) (connection : Connection) → IsServed process → row_at process.connections coid ≡ Some connection → is_some (in_use (servers_at connection.manager process)) ≡ true
 connection_served process coid connection h there =
-    let within = numbered connection.manager in
+    let within = number_below connection.manager in
     let long = h.count in
     served_while (attached process) (manager_number connection.manager) process.servers (omega (arith, within, long)) h.settled ∙ connection_attached process coid connection there

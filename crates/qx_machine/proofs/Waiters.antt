@@ -438,14 +438,8 @@ abbrev pub call_of : Caller → ℕ → ℕ → List ℕ → WaitingCall
 call_of caller block wanted bytes = record { process = caller.process; thread = caller.thread; call = caller.call; block = block; wanted = wanted; bytes = bytes; is_gone = false }
 
 -- the message is replied to, nobody else is answered, and the pipes are as before
-abbrev pub IsAlone : Resources → Deed Resources → Type 0
+abbrev IsAlone : Resources → Deed Resources → Type 0
 IsAlone r deed = Quiet (λ pipes. pipes ≡ r.pipes) deed
-
-pub alone-answers : (r : Resources) (deed : Deed Resources) → IsAlone r deed → deed.answers ≡ []
-alone-answers r deed alone = alone.answers
-
-pub alone-replied : (r : Resources) (deed : Deed Resources) → IsAlone r deed → is_some deed.reply ≡ true
-alone-replied r deed alone = alone.replied
 
 module _ (resources : Resources) (context : Context) where
   abbrev Same : Pipes → Type 0
@@ -485,10 +479,6 @@ module _ (resources : Resources) (context : Context) where
   ram-gives (msg.List after) = gives_on _ context.opened _ (λ over is. list-gives Same resources over after refl)
   ram-gives (msg.Notify action conditions code value) = gives_on _ context.opened _ (λ over is. notify-gives Same resources over action _ refl)
   ram-gives (msg.Chmod mode) = gives_on _ context.opened _ (λ over is. chmod-gives Same resources over mode refl)
-
-  manager-alone : (manager : Manager) → manager ≡ managers.Ram → (message : Message) → Gives (IsAlone resources) (manager_deed manager resources context message)
-  manager-alone managers.Ram ram message = ram-gives message
-  manager-alone managers.Pipe ram message = absurd (cc)
 
 module _ (P : WaitingCall → Type 0) (caller : Caller) where
   -- whatever the caller's own call reads or writes has the property
@@ -559,12 +549,6 @@ opened_by-caller process caller target moment old over is =
     gives_done _ _ refl)))))
 
 module _ (resources : Resources) (process : Process) (caller : Caller) (target : Target) (moment : ℕ) (given : Meaning) (deed : Deed Resources) (is : deed_of resources (context_of process caller target moment given) given ≡ Ok deed) where
-  -- the RAM manager answers nobody who waited, and leaves the pipes
-  pub ram_deed-alone : target.manager ≡ managers.Ram → IsAlone resources deed
-  ram_deed-alone ram =
-      gives-value (IsAlone resources) _ deed is
-      (gives_on _ (read_message given) _ (λ message known. manager-alone resources (context_of process caller target moment given) target.manager ram message))
-
   deed-gives : (P : WaitingCall → Type 0) → InPipes P resources.pipes → DeedKeeps P caller deed
   deed-gives P h =
       gives-value (DeedKeeps P caller) _ deed is

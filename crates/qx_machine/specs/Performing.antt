@@ -1,10 +1,10 @@
 -- What a message that a worker holds does to the rows of its user.
-use Rattle.std.specs.Prelude.{ℕ, List, [], ◌∷◌, ◌++◌, Option, Some, None, Result, Ok, Err, is_some, map, unwrap_or, if◌then◌else◌}
+use Rattle.std.specs.Prelude.{ℕ, List, [], ◌∷◌, ◌++◌, Option, Some, None, Result, Ok, Err, is_some, unwrap_or, if◌then◌else◌}
 use Rattle.qx_types.specs.Managers.{manager_number}
 use Rattle.qx_types.specs.declared.errno.Errno.{Errno}
 use Rattle.qx_types.specs.declared.errno.Errno.TheVariants.{EBADF, EINVAL, ENOSYS}
 use Rattle.qx_types.specs.declared.names.Manager.{Manager}
-use Rattle.qx_types.specs.declared.names.Manager.TheVariants.{Pipe}
+use Rattle.qx_types.specs.declared.names.Manager.TheVariants.{Ram}
 use Rattle.qx_types.specs.declared.names.Coid.{Coid}
 use Rattle.qx_types.specs.declared.outcome.Answer.{Answer}
 use Rattle.qx_types.specs.declared.outcome.Answer.TheVariants as answer
@@ -24,14 +24,14 @@ use Rattle.qx_machine.specs.declared.rows.Over.{Over}
 use Rattle.qx_isolation.specs.declared.rows.OwnItem.TheVariants as item
 use Rattle.qx_machine.specs.declared.rows.Sent.{Sent}
 use Rattle.qx_machine.specs.declared.rows.State.{State}
-use Rattle.qx_machine.specs.declared.rows.State.TheVariants.{Taken}
+use Rattle.qx_machine.specs.declared.rows.State.TheVariants.{Taken, Waiting}
 use Rattle.qx_machine.specs.declared.rows.Target.{Target}
 use Rattle.qx_machine.specs.declared.rows.ThreadRow.{ThreadRow}
 use Rattle.qx_machine.specs.declared.rows.WaitingCall.{WaitingCall}
 use Rattle.qx_machine.specs.Functions.{Deed, Reply, existing_coid}
 use Rattle.qx_isolation.specs.Judgements.{◌>>=◌, found, need}
 use Rattle.qx_machine.specs.Managers.{close_client, manager_deed}
-use Rattle.qx_machine.specs.Parts.{Part, Change, Remove, disconnects, with_process}
+use Rattle.qx_machine.specs.Parts.{Part, Change, Remove, disconnects, thread_at, with_process}
 use Rattle.qx_machine.specs.PipeManager.{cancel_call}
 use Rattle.qx_machine.specs.Processes.{Process, after_error, after_reply, answered_thread, served_thread, servers_at, with_thread, without_server}
 use Rattle.qx_machine.specs.Resources.{Resources}
@@ -114,17 +114,30 @@ after_answer part process thread over (Ok deed) =
     with_answers deed.answers (with_process process (after_message thread over (Ok deed)) (record part { resources = deed.state }))
 after_answer part process thread over (Err error) = with_process process (after_message thread over (Err error)) part
 
--- an answer takes an unblock pulse of its call out of the line, if one stands there
-abbrev pub answered_changes : Manager → List (WaitingCall × Answer) → List Change
-answered_changes manager answers = map (λ answer. Remove manager (item.Unblock answer.0.process answer.0.thread answer.0.call)) answers
+-- the manager that a thread has called whose message was received and is not answered; of any other thread it says nothing
+abbrev pub called_in : State → Manager
+called_in (Taken sent) = sent.target.manager
+called_in (Waiting sent) = sent.target.manager
+called_in _ = Ram
+
+abbrev pub called_by : Option ThreadRow → Manager
+called_by None = Ram
+called_by (Some row) = called_in row.state
+
+-- an answer takes an unblock pulse of its call out of the line of the manager that its thread had called, if one stands there
+abbrev pub answered_changes : List (WaitingCall × Answer) → Part → List Change
+answered_changes [] part = []
+answered_changes (first ∷ rest) part =
+    Remove (called_by (thread_at part first.0.process first.0.thread)) (item.Unblock first.0.process first.0.thread first.0.call)
+    ∷ answered_changes rest (with_answer first part)
 
 abbrev pub own_change : Manager → Caller → Change
 own_change manager caller = Remove manager (item.Unblock caller.process caller.thread caller.call)
 
 -- what changes in the lines as a message is served, its process' disconnect pulse among it
-abbrev pub served_changes : Manager → Caller → List Change → Result (Deed Resources) Errno → List Change
-served_changes manager caller lost (Ok deed) = (if is_some deed.reply then own_change manager caller ∷ [] else []) ++ lost ++ answered_changes manager deed.answers
-served_changes manager caller lost (Err error) = own_change manager caller ∷ lost
+abbrev pub served_changes : Part → Manager → Caller → List Change → Result (Deed Resources) Errno → List Change
+served_changes part manager caller lost (Ok deed) = (if is_some deed.reply then own_change manager caller ∷ [] else []) ++ lost ++ answered_changes deed.answers part
+served_changes part manager caller lost (Err error) = own_change manager caller ∷ lost
 
 -- ---- what a worker does
 
@@ -138,7 +151,7 @@ caller_of process thread row sent = record { process = process; thread = thread;
 abbrev pub served_by : Part → Caller → Sent → Result (Deed Resources) Errno → Served
 served_by part caller sent given = record {
   part = after_answer part caller.process caller.thread sent.target.over given;
-  changes = served_changes sent.target.manager caller (disconnects caller.process (after_message caller.thread sent.target.over given) (row_at part.processes caller.process)) given;
+  changes = served_changes (with_process caller.process (after_message caller.thread sent.target.over given) part) sent.target.manager caller (disconnects caller.process (after_message caller.thread sent.target.over given) (row_at part.processes caller.process)) given;
 }
 
 -- only a message that was received and not answered is performed
@@ -153,7 +166,7 @@ serve_message part number thread moment = do
 abbrev pub answering : Part → Deed Resources → Served
 answering part deed = record {
   part = with_answers deed.answers (record part { resources = deed.state });
-  changes = answered_changes Pipe deed.answers;
+  changes = answered_changes deed.answers part;
 }
 
 -- an unblock pulse is for a call that waits in a pipe, and for no other (Writing a Resource Manager: the unblock pulse)

@@ -25,7 +25,8 @@ use Rattle.qx_machine.specs.Users as users
 use Rattle.qx_machine.specs.Users.{serve}
 use Rattle.qx_isolation.proofs.Workers.{after_doing, after_item, after_taking, item_done, item_taken, server_leaves}
 use Rattle.qx_play.proofs.Weights.{first_weighs, performed_weighs, waiting_weighs, waiting_weighs_at_most, weight_of, weight_of_lines, weight_waiting}
-use Rattle.qx_play.specs.Play.{first_worker, has_waiting, items_waiting, next_manager, round, rounds, world_played, hand_emptied, all_served, with_lines_served}
+use Rattle.qx_steps.specs.Reads.{has_item, next_manager}
+use Rattle.qx_play.specs.Play.{first_worker, items_waiting, round, rounds, world_played, hand_emptied, all_served, with_lines_served}
 
 -- what each step keeps: the number of workers, a place for each one's hand and a line for each manager
 pub record Keeps (w : World) (workers : ℕ) : Type 0 where
@@ -166,7 +167,7 @@ record Next (w : World) (among : List Manager) : Type 0 where
   manager : Manager
   first : Queued
   rest : List Queued
-  next : find (has_waiting w) among ≡ Some manager
+  next : find (has_item w) among ≡ Some manager
   there : line_of w manager ≡ first ∷ rest
 
 one_waits : (first : Queued) (rest : List Queued) → nat_lt 0 (length (first ∷ rest)) ≡ true
@@ -179,7 +180,7 @@ next_here w manager others (first ∷ rest) e later = record {
   manager = manager;
   first = first;
   rest = rest;
-  next = ap (λ waits. cond waits (Some manager) (find (has_waiting w) others)) (ap (λ l. nat_lt 0 (length l)) e ∙ one_waits first rest);
+  next = ap (λ waits. cond waits (Some manager) (find (has_item w) others)) (ap (λ l. nat_lt 0 (length l)) e ∙ one_waits first rest);
   there = e;
 }
 next_here w manager others [] e later =
@@ -188,7 +189,7 @@ next_here w manager others [] e later =
       manager = found.manager;
       first = found.first;
       rest = found.rest;
-      next = ap (λ l. cond (nat_lt 0 (length l)) (Some manager) (find (has_waiting w) others)) e ∙ found.next;
+      next = ap (λ l. cond (nat_lt 0 (length l)) (Some manager) (find (has_item w) others)) e ∙ found.next;
       there = found.there;
     }
 
@@ -235,12 +236,12 @@ some_next : (n : ℕ) (w : World) (items : ℕ) → Keeps w n → items_waiting 
 some_next n w items k e = next_among w managers items (ap (sum_by length) (line_of_each w k.lines) ∙ e)
 
 -- where none waits, none is next
-none_next : (w : World) (among : List Manager) → sum_by length (map (line_of w) among) ≡ 0 → find (has_waiting w) among ≡ None
+none_next : (w : World) (among : List Manager) → sum_by length (map (line_of w) among) ≡ 0 → find (has_item w) among ≡ None
 none_next w [] e = refl
 none_next w (manager ∷ others) e =
     let empty : length (line_of w manager) ≡ 0 = omega (arith, e, sum_by-cons length (line_of w manager) (map (line_of w) others)) in
     let rest = none_next w others (omega (arith, e, sum_by-cons length (line_of w manager) (map (line_of w) others))) in
-    ap (λ count. cond (nat_lt 0 count) (Some manager) (find (has_waiting w) others)) empty ∙ rest
+    ap (λ count. cond (nat_lt 0 count) (Some manager) (find (has_item w) others)) empty ∙ rest
 
 -- and no round is taken
 pub stays : (left : ℕ) (config : Configuration) (moment : ℕ) (steps : List Step) → next_manager (world_played config steps) ≡ None → rounds (suc left) config moment steps ≡ steps

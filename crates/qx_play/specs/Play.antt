@@ -12,7 +12,7 @@ use Rattle.qx_types.specs.declared.step.Step.TheVariants.{Call, TakeReply, Recei
 use Rattle.qx_machine.specs.Machine.{World, line_of, step}
 use Rattle.qx_isolation.specs.Rows.{row_at}
 use Rattle.qx_machine.specs.Runs.{erase, run, received}
-use Rattle.qx_steps.specs.Reads.{is_thread_answered, row_among_parts}
+use Rattle.qx_steps.specs.Reads.{is_thread_answered, next_manager, row_among_parts}
 use Rattle.qx_script.specs.declared.command.Command.{Command}
 use Rattle.qx_script.specs.declared.command.Command.TheVariants.{Take, Serve, Do, Show, Erased, Trace}
 use Rattle.qx_play.specs.Printed.{trace_text, transcript_text}
@@ -32,14 +32,6 @@ first_worker = record { 0 = 1 }
 
 abbrev pub is_holding : World → Bool
 is_holding w = is_some (row_at w.hands 1)
-
--- an item waits for the manager
-abbrev pub has_waiting : World → Manager → Bool
-has_waiting w manager = nat_lt 0 (length (line_of w manager))
-
--- the manager whose first item is next: the first one, by number, for which an item waits
-abbrev pub next_manager : World → Option Manager
-next_manager w = find (has_waiting w) managers
 
 -- the first worker takes an item and does it, at a moment
 abbrev pub round : ℕ → List Step → Manager → List Step

@@ -9,7 +9,7 @@ ghost use Rattle.qx_types.specs.declared.step.Step.{Step};
 ghost use Rattle.qx_isolation.specs.Lines.{line_at};
 ghost use Rattle.qx_machine.specs.Runs.{erase, received, run};
 ghost use Rattle.qx_play.specs.Play as play;
-ghost use Rattle.qx_play.specs.Play.{all_served, called, hand_emptied, has_waiting, played_line, with_reply_taken, with_lines_served, shown, items_waiting, world_played};
+ghost use Rattle.qx_play.specs.Play.{all_served, called, hand_emptied, played_line, with_reply_taken, with_lines_served, shown, items_waiting, world_played};
 ghost use Rattle.qx_play.specs.Printed.{transcript_text};
 
 use crate::text;
@@ -141,7 +141,7 @@ fn serve_waiting(traced: &mut Traced, moment: u64) -> Result<(), NoMemory>
 {
     let most = 2 * waiting(traced.world());
     'rounds: for _ in 0..most {
-        let Some(manager) = next_manager(traced.world()) else {
+        let Some(manager) = traced.world().next_manager() else {
             return Ok(());
         };
         let worker = FIRST;
@@ -173,27 +173,4 @@ fn waiting_at(world: &World, number: usize) -> usize
         Some(manager) => world.waiting(manager),
         None => 0,
     }
-}
-
-/// The manager whose first item is next: the first one, by number, for which an item waits.
-fn next_manager(world: &World) -> Option<Manager>
-    ensures { result ≡ play.next_manager world.now }
-{
-    'managers: for number in 0..Manager::COUNT {
-        if let Some(manager) = waiting_manager(world, number) {
-            return Some(manager);
-        }
-    }
-    None
-}
-
-/// The manager of a number, if an item waits for it.
-fn waiting_manager(world: &World, number: usize) -> Option<Manager>
-    ensures { result ≡ find (has_waiting world.now) (option_to_list (slice_get managers number)) }
-{
-    let manager = Manager::of_number(number)?;
-    if world.waiting(manager) == 0 {
-        return None;
-    }
-    Some(manager)
 }

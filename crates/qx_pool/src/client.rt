@@ -78,7 +78,7 @@ impl<L: Ledger> Client<L> {
             return CallEnd::Stopped;
         }
         let called = guard.take(&mut self.seat, Step::Call { thread, request });
-        let left = guard.next_line();
+        let left = guard.world().next_manager();
         drop(guard);
         let Ok(outcome) = called else {
             return CallEnd::NoMemory;
@@ -114,7 +114,7 @@ impl<L: Ledger> Client<L> {
         let mut guard = server.lock(rt);
         let result = guard.take(&mut self.seat, step);
         let released = user.map(|user| guard.released(user));
-        let left = guard.next_line();
+        let left = guard.world().next_manager();
         drop(guard);
         if let Some(released) = released {
             server.wake_clients(released);

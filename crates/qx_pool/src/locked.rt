@@ -7,7 +7,7 @@ ghost use Rattle.qx_types.specs.declared.step.Step.{Step};
 ghost use Rattle.qx_steps.specs.Held.{held_work, IsStale};
 ghost use Rattle.qx_steps.specs.declared.work.PerformFault.{PerformFault};
 ghost use Rattle.qx_world.specs.Trace.{IsAfter, IsLast, outcome_now, run_of};
-ghost use Rattle.qx_pool.specs.Awaits.{is_blocked, is_to_come, next_manager};
+ghost use Rattle.qx_pool.specs.Awaits.{is_blocked, is_to_come};
 ghost use Rattle.qx_pool.specs.Notes.{AddsOf, Agrees, notes_after, note};
 ghost use Rattle.qx_pool.specs.Waits.{IsPossible, is_awaited, is_in};
 ghost use Rattle.qx_pool.specs.declared.waits.Awaited.{Awaited};
@@ -169,20 +169,6 @@ impl<L: Ledger> Locked<L> {
         })
     }
 
-    /// The manager whose line a worker serves next: the first one, by number, in whose line an item stands; none where all
-    /// lines are empty.
-    pub(crate) fn next_line(&self) -> Option<Manager>
-        ensures { result ≡ next_manager (run_of self.now.traced).world }
-    {
-        if self.world().waiting(Manager::Ram) != 0 {
-            Some(Manager::Ram)
-        } else if self.world().waiting(Manager::Pipe) != 0 {
-            Some(Manager::Pipe)
-        } else {
-            None
-        }
-    }
-
     /// Whose item a worker holds.
     pub(crate) fn user_of_work(&self, worker: Worker) -> Option<User> {
         self.world().owner(&Step::Perform { worker, moment: 0 })
@@ -201,7 +187,7 @@ impl<L: Ledger> Locked<L> {
             return false;
         }
         match awaited {
-            Awaited::Item => self.next_line().is_none(),
+            Awaited::Item => self.world().next_manager().is_none(),
             Awaited::Answer(thread) => {
                 let is_blocked = self.world().blocked(thread);
                 if is_blocked {
@@ -230,7 +216,7 @@ impl<L: Ledger> Locked<L> {
         released
     }
 
-    /// From now on loops end once both lines are empty, and clients wait no longer.
+    /// From now on loops end once all lines are empty, and clients wait no longer.
     pub(crate) fn stop(&mut self)
         ensures stopped { self.new.is_stopped ≡ true }
         ensures waits { self.new.waits ≡ self.old.waits }

@@ -67,7 +67,7 @@ impl<L: Ledger> Server<L> {
         Ok((server, seats))
     }
 
-    /// Ends the service: loops end once both lines are empty, clients that wait are answered `Stopped`, their calls standing
+    /// Ends the service: loops end once all lines are empty, clients that wait are answered `Stopped`, their calls standing
     /// where they stand, and so are later calls.
     pub fn stop(&self, rt: &impl Wait) {
         let mut guard = self.lock(rt);

@@ -23,7 +23,7 @@ pub trait Clock {
     fn moment(&self) -> u64;
 }
 
-/// A worker receives items and performs them until the server is stopped and both lines are empty, and gives its seat back. It
+/// A worker receives items and performs them until the server is stopped and all lines are empty, and gives its seat back. It
 /// serves the RAM manager's line first, and begins with what it holds. A loop whose worker is no worker of the server, or
 /// holds what another loop took, ends at once; one that wants memory stops the server, and what it holds it holds.
 pub fn worker_loop<L: Ledger, G: Gate, C: Clock, R: Wait>(
@@ -93,9 +93,9 @@ fn receive<L: Ledger, R: Wait>(
     ensures { AddsOf worker.0 seat.old.notes.items seat.new.notes.items }
 {
     let mut guard = server.lock_for(rt, spinner, Awaited::Item);
-    let manager = guard.next_line()?;
+    let manager = guard.world().next_manager()?;
     let received = guard.receive(seat, worker, manager);
-    let left = guard.next_line();
+    let left = guard.world().next_manager();
     drop(guard);
     server.wake_worker(left);
     match received {

@@ -1,5 +1,5 @@
 -- What a process uses and loses as something is attached to a manager, or goes from there.
-use Rattle.std.proofs.Common.{inl, inr, ◌≡◌, ◌≢◌, ◌<◌, ◌+◌, ℕ, zero, suc, List, [], ◌∷◌, length, get_or, set, refl, sym, ap, ◌∙◌, arith, Bool, true, false, Option, Some, None, IfSome, subst}
+use Rattle.std.proofs.Common.{inl, inr, ◌≡◌, ◌≢◌, ◌<◌, ◌+◌, ℕ, zero, suc, List, [], ◌∷◌, ◌++◌, length, get_or, set, refl, sym, ap, ◌∙◌, arith, Bool, true, false, Option, Some, None, IfSome, subst}
 use Rattle.std.specs.Prelude.{◌||◌, ◌&&◌, ◌==◌, is_some, not}
 use Rattle.std.specs.List.{flat_map, list_any}
 use Rattle.std.specs.Option.{option_to_list}
@@ -10,7 +10,6 @@ use Rattle.std.proofs.lemmas.List.{append-nil, length-set, set-get_or}
 use Rattle.std.proofs.lemmas.Grind.{common_steps}
 use Rattle.qx_types.specs.Managers.{manager_number, managers}
 use Rattle.qx_types.specs.declared.names.Manager.{Manager}
-use Rattle.qx_types.specs.declared.names.Manager.TheVariants.{Ram, Pipe}
 use Rattle.qx_types.specs.declared.names.TheConstants.Manager.{COUNT}
 use Rattle.qx_machine.specs.declared.rows.Connection.{Connection}
 use Rattle.qx_isolation.specs.declared.rows.ServerName.{ServerName}
@@ -19,12 +18,9 @@ use Rattle.qx_machine.specs.Processes.{Process, servers_at}
 use Rattle.qx_isolation.specs.Rows.{put_row, row_at}
 use Rattle.qx_machine.specs.Servers.{Servers, connects, in_use, is_attached, lost_by, servers_from, servers_while, sides_with}
 use Rattle.qx_process.specs.Reads.{HasPlace, Loses, Uses, is_at, is_served}
+use Rattle.qx_types.proofs.Managers.{at_one, number_below}
 use Rattle.qx_process.proofs.RowLemmas.{row_at-get_or}
 use Rattle.qx_process.proofs.ServerLemmas.{any_put, any_put_same, any_set_fewer, any_set_more, any_set_same, differs_by, line_at-here, line_at-other, servers_from_again, servers_from_at, served_while, some-while}
-
-pub numbered : (manager : Manager) → manager_number manager < COUNT
-numbered Ram = omega arith
-numbered Pipe = omega arith
 
 connects_other : (number : ℕ) (connection : Connection) → number ≢ manager_number connection.manager → connects number (Some connection) ≡ false
 connects_other number connection differs = differs_by number (manager_number connection.manager) differs
@@ -91,14 +87,15 @@ put_here connections sides coid connection =
 
 -- ---- the one that is lost
 
-same_lost : (manager : Manager) (number : Option ℕ) → lost_by manager number number ≡ []
+pub same_lost : (manager : Manager) (number : Option ℕ) → lost_by manager number number ≡ []
 same_lost manager None = refl
 same_lost manager (Some number) = refl
 
 only_lost : (manager : Manager) (before after : Manager → Option ℕ) → ((other : Manager) → manager_number other ≢ manager_number manager → after other ≡ before other)
     → flat_map (λ one. lost_by one (before one) (after one)) managers ≡ lost_by manager (before manager) (after manager)
-only_lost Ram before after others = rw (others Pipe (λ is. omega (arith, is)), same_lost Pipe (before Pipe)) (append-nil _)
-only_lost Pipe before after others = rw (others Ram (λ is. omega (arith, is)), same_lost Ram (before Ram)) (append-nil _)
+only_lost manager before after others =
+    let each : Manager → List ServerName = λ one. lost_by one (before one) (after one) in
+    at_one (flat_map each) (λ one rest. each one ++ rest) (λ one rest. refl) manager (λ other rest differs. rw (others other differs, same_lost other (before other)) refl) ∙ append-nil (each manager)
 
 at_other : (manager other : Manager) (before after : Option ℕ) (lost : Option ServerName) → manager_number other ≢ manager_number manager → option_to_list lost ≡ lost_by manager before after → is_at other lost ≡ false
 at_other manager other before after None differs is = refl
@@ -133,7 +130,7 @@ lost_used manager None after (Some server) Holds used is = absurd (cc)
 
 module _ (manager : Manager) (all : List Servers) (before after : ℕ → Bool) (count : length all ≡ COUNT) (settled : all ≡ servers_from before 0 all) (elsewhere : (number : ℕ) → number ≢ manager_number manager → after number ≡ before number) where
   here : manager_number manager < length all
-  here = let within = numbered manager in omega (arith, within, count)
+  here = let within = number_below manager in omega (arith, within, count)
 
   pub one_changes : servers_from after 0 all ≡ with_line all (manager_number manager) (servers_while (after (manager_number manager)))
   one_changes =
@@ -196,7 +193,7 @@ pub connection_served : (process : Process) (coid : ℕ) (connection : Connectio
     → row_at process.connections coid ≡ Some connection → is_served connection.manager process ≡ true
 connection_served process coid connection settled count is =
     let number = manager_number connection.manager in
-    let within = numbered connection.manager in
+    let within = number_below connection.manager in
     let place : length process.servers ≡ COUNT = count in
     let there : connects number (get_or process.connections coid None) ≡ true = ap (connects number) (sym (row_at-get_or process.connections coid) ∙ is) ∙ same_number number in
     served_while (λ number. is_attached number process.connections process.sides) number process.servers (omega (arith, within, place)) settled
@@ -206,7 +203,7 @@ pub side_served : (process : Process) (thread : ℕ) (manager : Manager) → pro
     → row_at process.sides thread ≡ Some manager → is_served manager process ≡ true
 side_served process thread manager settled count is =
     let number = manager_number manager in
-    let within = numbered manager in
+    let within = number_below manager in
     let place : length process.servers ≡ COUNT = count in
     let there : sides_with number (get_or process.sides thread None) ≡ true = ap (sides_with number) (sym (row_at-get_or process.sides thread) ∙ is) ∙ same_number number in
     served_while (λ number. is_attached number process.connections process.sides) number process.servers (omega (arith, within, place)) settled

@@ -1,13 +1,16 @@
 -- What becomes of the threads and the server connections of a process that ends.
-use Rattle.std.proofs.Common.{inl, inr, ◌≡◌, ◌<◌, ◌+◌, ℕ, zero, suc, List, [], ◌∷◌, ◌++◌, length, get_or, map, set, take, drop, refl, sym, ap, ap₂, ◌∙◌, arith, true, Option, Some, None, IfSome, add-one, slice_get}
-use Rattle.std.specs.Prelude.{is_some, option_map}
-use Rattle.std.specs.List.{list_any}
+use Rattle.std.proofs.Common.{inl, inr, ◌≡◌, ◌≢◌, ◌<◌, ◌+◌, ℕ, zero, suc, List, [], ◌∷◌, ◌++◌, length, get_or, map, set, take, drop, refl, sym, ap, ap₂, subst, ◌∙◌, arith, true, false, Option, Some, None, IfSome, add-one, slice_get}
+use Rattle.std.specs.Prelude.{◌||◌, is_some, option_map, unwrap_or}
+use Rattle.std.specs.List.{flat_map, list_any}
 use Rattle.std.specs.Option.{option_to_list}
+use Rattle.std.proofs.Math.Bool.{or-false}
+use Rattle.std.proofs.lemmas.Bool.{eq-eqb}
 use Rattle.std.proofs.lemmas.Bool.Decides.{eqb_tells}
 use Rattle.std.proofs.lemmas.List.{append-nil, drop_all, get_or-map, get_or-set_other, get_or-set_same, length-set, take_all}
+use Rattle.std.proofs.lemmas.List.Folds.{flat_map-map}
+use Rattle.std.proofs.lemmas.Option.{slice_get-map}
 use Rattle.qx_types.specs.Managers.{manager_number, managers}
 use Rattle.qx_types.specs.declared.names.Manager.{Manager}
-use Rattle.qx_types.specs.declared.names.Manager.TheVariants.{Ram, Pipe}
 use Rattle.qx_types.specs.declared.names.TheConstants.Manager.{COUNT}
 use Rattle.qx_isolation.specs.declared.rows.ServerName.{ServerName}
 use Rattle.qx_isolation.specs.Lines.{line_at, with_line}
@@ -15,9 +18,9 @@ use Rattle.qx_machine.specs.Processes.{Process, no_sides, servers_at}
 use Rattle.qx_isolation.specs.Rows.{row_at}
 use Rattle.qx_machine.specs.Servers.{Servers, in_use, is_attached, leaving, lost_by, servers_from}
 use Rattle.qx_process.specs.Reads.{LosesAll, is_at, is_served, named}
-use Rattle.qx_process.proofs.AttachLemmas.{numbered}
+use Rattle.qx_types.proofs.Managers.{at_one, by_managers, number_at, number_below, same_manager}
 use Rattle.qx_process.proofs.RowLemmas.{row_at-get_or}
-use Rattle.qx_process.proofs.ServerLemmas.{line_at-get_or, line_at-here, none-left, servers_from_again}
+use Rattle.qx_process.proofs.ServerLemmas.{differs_by, line_at-get_or, line_at-here, none-left, servers_from_again}
 
 -- those at one manager, all left
 abbrev pub left : Servers → Servers
@@ -55,23 +58,6 @@ length-left (suc number) (servers ∷ all) = ap suc (length-left number all)
 
 pub left-whole : (all : List Servers) → length all ≡ COUNT → left_below COUNT all ≡ map left all
 left-whole all count = ap₂ (λ xs ys. map left xs ++ ys) (take_all COUNT all (omega (arith, count))) (drop_all COUNT all (omega (arith, count))) ∙ append-nil (map left all)
-
--- a manager is known by its number
-same_manager : (one other : Manager) → manager_number one ≡ manager_number other → one ≡ other
-same_manager Ram Ram same = refl
-same_manager Ram Pipe same = absurd (omega (arith, same))
-same_manager Pipe Ram same = absurd (omega (arith, same))
-same_manager Pipe Pipe same = refl
-
-pub number_of : (number : ℕ) (manager : Manager) → Some manager ≡ slice_get managers number → manager_number manager ≡ number
-number_of zero manager is = let same : manager ≡ Ram = cc in ap manager_number same
-number_of (suc zero) manager is = let same : manager ≡ Pipe = cc in ap manager_number same
-number_of (suc (suc number)) manager is = absurd (cc)
-
-pub manager_there : (number : ℕ) → number < COUNT → None ≡ slice_get managers number → ⊥
-manager_there zero few none = absurd (cc)
-manager_there (suc zero) few none = absurd (cc)
-manager_there (suc (suc number)) few none = absurd (omega (arith, few))
 
 -- the one that is lost at a manager
 lost-one : (manager : Manager) (lost : Option ServerName) (number : Option ℕ) → option_to_list lost ≡ lost_by manager number None → lost ≡ option_map (named manager) number
@@ -137,45 +123,53 @@ used : (manager : Manager) (before : Process) (number : Option ℕ) → in_use (
 used manager before None is = tt
 used manager before (Some number) is = ap is_some is
 
-at_managers : (manager : Manager) (ram pipe : Option ℕ) → (in_use_at : Manager → Option ℕ) → in_use_at Ram ≡ ram → in_use_at Pipe ≡ pipe → is_some (in_use_at manager) ≡ list_any (is_at manager) (option_map (named Ram) ram ∷ option_map (named Pipe) pipe ∷ [])
-at_managers Ram None None in_use_at at_ram at_pipe = ap is_some at_ram
-at_managers Ram None (Some pipe) in_use_at at_ram at_pipe = ap is_some at_ram
-at_managers Ram (Some ram) None in_use_at at_ram at_pipe = ap is_some at_ram
-at_managers Ram (Some ram) (Some pipe) in_use_at at_ram at_pipe = ap is_some at_ram
-at_managers Pipe None None in_use_at at_ram at_pipe = ap is_some at_pipe
-at_managers Pipe None (Some pipe) in_use_at at_ram at_pipe = ap is_some at_pipe
-at_managers Pipe (Some ram) None in_use_at at_ram at_pipe = ap is_some at_pipe
-at_managers Pipe (Some ram) (Some pipe) in_use_at at_ram at_pipe = ap is_some at_pipe
+-- what is in use at a manager is at that manager, and at no other
+at_own : (manager : Manager) (number : Option ℕ) → is_at manager (option_map (named manager) number) ≡ is_some number
+at_own manager None = refl
+at_own manager (Some number) = eq-eqb (manager_number manager) (manager_number manager) refl
+
+at_other : (manager other : Manager) (number : Option ℕ) → manager_number other ≢ manager_number manager → is_at manager (option_map (named other) number) ≡ false
+at_other manager other None differs = refl
+at_other manager other (Some number) differs = differs_by (manager_number manager) (manager_number other) (λ is. differs (sym is))
 
 module _ (before after : Process) (count : length before.servers ≡ COUNT) (is_left : after.servers ≡ map left before.servers) where
   none-used : (manager : Manager) → in_use (servers_at manager after) ≡ None
   none-used manager =
-      let here : manager_number manager < length before.servers = let within = numbered manager in omega (arith, within, count) in
+      let here : manager_number manager < length before.servers = let within = number_below manager in omega (arith, within, count) in
       ap (λ all. in_use (line_at all (manager_number manager))) is_left
       ∙ ap in_use (line_at-get_or (map left before.servers) (manager_number manager) ∙ get_or-map left before.servers (manager_number manager) [] [] here)
       ∙ none-left (get_or before.servers (manager_number manager) [])
 
-  both : LosesAll (option_map (named Ram) (in_use (servers_at Ram before)) ∷ option_map (named Pipe) (in_use (servers_at Pipe before)) ∷ []) before after
-  both = record {
-    lost_are = rw (none-used Ram, none-used Pipe, listed Ram, listed Pipe) refl;
-    places = places;
-    were_used = were_used;
-    uses = λ manager. at_managers manager (in_use (servers_at Ram before)) (in_use (servers_at Pipe before)) (λ one. in_use (servers_at one before)) refl refl;
+  -- what is in use at each manager
+  abbrev lost_at : Manager → Option ServerName
+  lost_at manager = option_map (named manager) (in_use (servers_at manager before))
+
+  -- what holds of what is lost at each manager holds under each number
+  each-lost : (Holds : ℕ → ServerName → Type 0) → ((manager : Manager) → IfSome (lost_at manager) (Holds (manager_number manager))) → (number : ℕ) → IfSome (row_at (map lost_at managers) number) (Holds number)
+  each-lost Holds here number = rw (slice_get-map lost_at managers number) (by (slice_get managers number) refl)
+    where
+      by : (at : Option Manager) → slice_get managers number ≡ at → IfSome (unwrap_or (option_map lost_at at) None) (Holds number)
+      by None is = tt
+      by (Some manager) is = subst (λ n. IfSome (lost_at manager) (Holds n)) (number_at number manager is) (here manager)
+
+  all-lost : LosesAll (map lost_at managers) before after
+  all-lost = record {
+    lost_are = flat_map-map option_to_list lost_at managers ∙ (λ i. flat_map (λ manager. each manager i) managers);
+    places = each-lost (λ number server. manager_number server.manager ≡ number) (λ manager. placed manager (in_use (servers_at manager before)));
+    were_used = each-lost (λ number server. is_served server.manager before ≡ true) (λ manager. used manager before (in_use (servers_at manager before)) refl);
+    uses = uses;
     unserved = λ manager. ap is_some (none-used manager);
   }
     where
-      places : (number : ℕ) → IfSome (row_at (option_map (named Ram) (in_use (servers_at Ram before)) ∷ option_map (named Pipe) (in_use (servers_at Pipe before)) ∷ []) number) (λ server. manager_number server.manager ≡ number)
-      places zero = placed Ram (in_use (servers_at Ram before))
-      places (suc zero) = placed Pipe (in_use (servers_at Pipe before))
-      places (suc (suc number)) = tt
+      each : (manager : Manager) → option_to_list (lost_at manager) ≡ lost_by manager (in_use (servers_at manager before)) (in_use (servers_at manager after))
+      each manager = listed manager (in_use (servers_at manager before)) ∙ ap (lost_by manager (in_use (servers_at manager before))) (sym (none-used manager))
 
-      were_used : (number : ℕ) → IfSome (row_at (option_map (named Ram) (in_use (servers_at Ram before)) ∷ option_map (named Pipe) (in_use (servers_at Pipe before)) ∷ []) number) (λ server. is_served server.manager before ≡ true)
-      were_used zero = used Ram before (in_use (servers_at Ram before)) refl
-      were_used (suc zero) = used Pipe before (in_use (servers_at Pipe before)) refl
-      were_used (suc (suc number)) = tt
+      uses : (manager : Manager) → is_served manager before ≡ list_any (is_at manager) (map lost_at managers)
+      uses manager = sym
+          (at_one (λ some. list_any (is_at manager) (map lost_at some)) (λ one rest. is_at manager (lost_at one) || rest) (λ one rest. refl) manager
+          (λ other rest differs. rw (at_other manager other (in_use (servers_at other before)) differs) refl)
+          ∙ rw (at_own manager (in_use (servers_at manager before))) (or-false (is_served manager before)))
 
   pub loses-all : (lost : List (Option ServerName)) → length lost ≡ COUNT → ((manager : Manager) → row_at lost (manager_number manager) ≡ option_map (named manager) (in_use (servers_at manager before))) → LosesAll lost before after
-  loses-all [] places at = absurd (omega (arith, places))
-  loses-all (ram ∷ []) places at = absurd (omega (arith, places))
-  loses-all (ram ∷ pipe ∷ []) places at = rw (at Ram, at Pipe) both
-  loses-all (ram ∷ pipe ∷ other ∷ rest) places at = absurd (omega (arith, places))
+  loses-all lost places at =
+      rw (by_managers None lost lost_at places (λ manager. sym (row_at-get_or lost (manager_number manager)) ∙ at manager)) all-lost

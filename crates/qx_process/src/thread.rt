@@ -5,7 +5,7 @@ ghost use Rattle.qx_types.specs.declared.limits.TheConstants.Limits.{CALLS};
 ghost use Rattle.qx_types.specs.declared.outcome.Answer.TheVariants.{Failed, Reply as TheReply};
 ghost use Rattle.qx_machine.specs.Calls.{is_ready};
 ghost use Rattle.qx_machine.specs.Clients.{answer_in};
-ghost use Rattle.qx_machine.specs.Performing.{taken_in};
+ghost use Rattle.qx_machine.specs.Performing.{called_in, taken_in};
 ghost use Rattle.qx_machine.specs.Processes.{asked_thread, new_thread, queued_thread, received_in, served_thread, taken_thread, answered_thread, ready_thread, ranked_thread};
 ghost use Rattle.qx_process.specs.Reads.{BringsRoom, IsPriority, has_own_room, is_blocked, queued_in, unanswered_in};
 ghost use Rattle.qx_process.specs.inner.States.{state_of};
@@ -14,7 +14,7 @@ use crate::reply::Reply;
 use crate::room::Room;
 use qx_hint::assert_unchecked;
 use qx_machine::{Effect, Sent};
-use qx_types::{Answer, Errno, MessageBytes, Prio};
+use qx_types::{Answer, Errno, Manager, MessageBytes, Prio};
 use std::alloc::{AllocError, Global};
 use std::marker::Model;
 use std::mem;
@@ -147,6 +147,17 @@ impl ThreadCell {
         match &self.doing {
             Doing::Sent(Stage::Taken | Stage::Waiting, sent) => Some(sent),
             _ => None,
+        }
+    }
+
+    /// The manager that the thread has called, if its message was received and is not answered; else it says nothing.
+    #[inline(always)]
+    pub fn called(&self) -> Manager
+        ensures { result ≡ called_in self.now.state }
+    {
+        match &self.doing {
+            Doing::Sent(Stage::Taken | Stage::Waiting, sent) => sent.target.manager,
+            _ => Manager::Ram,
         }
     }
 

@@ -7,7 +7,7 @@ use Rattle.std.proofs.lemmas.Bool.Decides.{eqb_tells, nat_tests}
 use Rattle.std.proofs.lemmas.Option.{same_Some}
 use Rattle.qx_types.specs.Managers.{manager_number}
 use Rattle.qx_types.specs.declared.names.Manager.{Manager}
-use Rattle.qx_types.specs.declared.names.Manager.TheVariants as manager
+use Rattle.qx_types.proofs.Managers.{same_manager}
 use Rattle.qx_types.specs.declared.names.Proc.{Proc}
 use Rattle.qx_types.specs.declared.names.Thread.{Thread}
 use Rattle.qx_lists.specs.Table.{without}
@@ -47,12 +47,6 @@ same_unblock p q n m c d is = elim (eqb_tells p q) [
     ]
   ]
 ]
-
-same_manager : (one other : Manager) → manager_number one ≡ manager_number other → one ≡ other
-same_manager manager.Ram manager.Ram same = refl
-same_manager manager.Ram manager.Pipe same = absurd (omega (arith, same))
-same_manager manager.Pipe manager.Ram same = absurd (omega (arith, same))
-same_manager manager.Pipe manager.Pipe same = refl
 
 same_disconnect : (p q : ℕ) (s r : ServerName) → ((p == q) && (manager_number s.manager == manager_number r.manager) && (s.number == r.number)) ≡ true → ◌≡◌ {A = OwnItem} (item.Disconnect p s) (item.Disconnect q r)
 same_disconnect p q s r is = elim (eqb_tells p q) [

@@ -1,8 +1,11 @@
--- A thread's row among the rows of all users, and what it tells.
-use Rattle.std.specs.Prelude.{ℕ, Bool, List, Option, Some, None, is_some}
+-- What a world is read for: a thread's row among the rows of all users, and the manager whose line is next.
+use Rattle.std.specs.Prelude.{ℕ, Bool, List, Option, Some, None, find, is_some, length, nat_lt}
+use Rattle.qx_types.specs.Managers.{managers}
+use Rattle.qx_types.specs.declared.names.Manager.{Manager}
 use Rattle.qx_types.specs.declared.names.Proc.{Proc}
 use Rattle.qx_types.specs.declared.names.Thread.{Thread}
 use Rattle.qx_machine.specs.declared.rows.ThreadRow.{ThreadRow}
+use Rattle.qx_machine.specs.Machine.{World, line_of}
 use Rattle.qx_machine.specs.Parts.{Part, thread_of}
 use Rattle.qx_machine.specs.Processes.{Process}
 use Rattle.qx_isolation.specs.Rows.{row_at}
@@ -22,3 +25,11 @@ row_among_parts parts thread = thread_of thread.tid (process_among_parts parts t
 
 abbrev pub is_thread_answered : Option ThreadRow → Bool
 is_thread_answered row = is_some (answer_of row)
+
+-- an item waits for the manager
+abbrev pub has_item : World → Manager → Bool
+has_item w manager = nat_lt 0 (length (line_of w manager))
+
+-- the manager whose line a worker serves next: the first one, by number, for which an item waits
+abbrev pub next_manager : World → Option Manager
+next_manager w = find (has_item w) managers

@@ -1,7 +1,8 @@
 //! The rows of all users, the managers' lines and what each worker holds, with one call for each step.
 
-ghost use Rattle.std.specs.Prelude.{◌≡◌, ◌∷◌, ◌↔◌, ◌≢◌, None, Some, Ok, Err, IfOk, IsErr, IsOk, IsTrue, IsFalse, OnOk, OnErr, IsErrOf, length, is_some, option_map, replicate, slice_set, MatchOption};
-ghost use Rattle.std.specs.Option.{option_copied};
+ghost use Rattle.std.specs.Prelude.{◌≡◌, ◌∷◌, ◌↔◌, ◌≢◌, None, Some, Ok, Err, IfOk, IsErr, IsOk, IsTrue, IsFalse, OnOk, OnErr, IsErrOf, find, length, is_some, option_map, replicate, slice_get, slice_set, MatchOption};
+ghost use Rattle.std.specs.Option.{option_copied, option_to_list};
+ghost use Rattle.qx_types.specs.Managers.{managers};
 ghost use Rattle.qx_types.specs.declared.outcome.Outcome.TheVariants as outcome;
 ghost use Rattle.qx_machine.specs.Laws.{IsSettled, is_refusal};
 ghost use Rattle.qx_machine.specs.Machine as machine;
@@ -11,7 +12,7 @@ ghost use Rattle.qx_process.specs.Reads.{is_thread_blocked};
 ghost use Rattle.qx_chan.specs.Calls.{answer_of};
 ghost use Rattle.qx_chan.specs.Sending.{HasMemory};
 ghost use Rattle.qx_steps.specs.Held.{bytes_of_work, held_work, received_bytes, work_now, IsReadFor, IsStale};
-ghost use Rattle.qx_steps.specs.Reads.{is_thread_answered, process_among_parts, row_among_parts};
+ghost use Rattle.qx_steps.specs.Reads.{has_item, is_thread_answered, next_manager, process_among_parts, row_among_parts};
 ghost use Rattle.qx_steps.specs.inner.Reads.{is_thread_ready};
 ghost use Rattle.qx_steps.specs.inner.Steps.{after_mount, mount_in, CanMount};
 ghost use Rattle.qx_steps.specs.Steps.{target_in};
@@ -516,6 +517,30 @@ impl World {
         ensures { result ≡ length (machine.line_of self.now manager) }
     {
         self.channel.len(manager)
+    }
+
+    /// The manager whose line a worker serves next: the first one, by number, in whose line an item stands; none where all
+    /// lines are empty.
+    pub fn next_manager(&self) -> Option<Manager>
+        ensures { result ≡ next_manager self.now }
+    {
+        'managers: for number in 0..Manager::COUNT {
+            if let Some(manager) = self.waiting_manager(number) {
+                return Some(manager);
+            }
+        }
+        None
+    }
+
+    /// The manager of a number, if an item waits for it.
+    fn waiting_manager(&self, number: usize) -> Option<Manager>
+        ensures { result ≡ find (has_item self.now) (option_to_list (slice_get managers number)) }
+    {
+        let manager = Manager::of_number(number)?;
+        if self.waiting(manager) == 0 {
+            return None;
+        }
+        Some(manager)
     }
 
     /// The configuration.

@@ -1,1 +1,2 @@
 mod Different
+pub mod Managers

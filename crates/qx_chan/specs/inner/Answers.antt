@@ -2,14 +2,13 @@
 use Rattle.std.specs.Prelude.{ℕ, List, [], ◌∷◌, Result, Ok, Err}
 use Rattle.qx_types.specs.Managers.{manager_number}
 use Rattle.qx_types.specs.declared.errno.Errno.{Errno}
-use Rattle.qx_types.specs.declared.names.Manager.TheVariants.{Pipe}
 use Rattle.qx_types.specs.declared.names.Thread.{Thread}
 use Rattle.qx_machine.specs.declared.rows.Over.{Over}
 use Rattle.qx_isolation.specs.declared.rows.OwnItem.TheVariants as item
 use Rattle.qx_isolation.specs.declared.rows.Queued.{Queued}
 use Rattle.qx_isolation.specs.Lines.{with_line}
 use Rattle.qx_machine.specs.Machine.{line_without}
-use Rattle.qx_machine.specs.Performing.{after_serving}
+use Rattle.qx_machine.specs.Performing.{after_serving, called_by}
 use Rattle.qx_machine.specs.Processes.{Process, answered_thread, lost_servers}
 use Rattle.qx_queues.specs.Queues.{UsersAnswer}
 use Rattle.qx_shared.specs.Shared.{Shared, with_shared_line}
@@ -18,7 +17,7 @@ use Rattle.qx_resmgr.specs.declared.functions.Done.{Done}
 use Rattle.qx_resmgr.specs.declared.functions.Done.TheVariants.{Reply, NoReply}
 use Rattle.qx_chan.specs.Channel.{failed}
 use Rattle.qx_chan.specs.inner.Kept.{with_lost}
-use Rattle.qx_chan.specs.Users.{Users, with_thread_row}
+use Rattle.qx_chan.specs.Users.{Users, thread_row, with_thread_row}
 use Rattle.qx_chan.specs.declared.call.Call.{Call}
 
 -- the thread of a message that was received is answered with what that came to, or waits, where it is left without a reply
@@ -41,8 +40,12 @@ abbrev pub given_users : Users → List UsersAnswer → Users
 given_users users [] = users
 given_users users (first ∷ rest) = given_users (with_thread_row users first.thread (answered_thread first.answer)) rest
 
--- and the pipe manager's line has no unblock pulse of its call
-abbrev pub given_lines : List (List Queued) → List UsersAnswer → List (List Queued)
-given_lines lines [] = lines
-given_lines lines (first ∷ rest) =
-    given_lines (with_line lines (manager_number Pipe) (line_without first.thread.proc.user.0 (item.Unblock first.thread.proc.num first.thread.tid first.call))) rest
+-- an answer takes an unblock pulse of its call out of the line of the manager that its thread had called
+abbrev pub given_line : Users → List (List Queued) → UsersAnswer → List (List Queued)
+given_line users lines given =
+    with_line lines (manager_number (called_by (thread_row users given.thread))) (line_without given.thread.proc.user.0 (item.Unblock given.thread.proc.num given.thread.tid given.call))
+
+-- and no line has an unblock pulse of its call
+abbrev pub given_lines : Users → List (List Queued) → List UsersAnswer → List (List Queued)
+given_lines users lines [] = lines
+given_lines users lines (first ∷ rest) = given_lines (with_thread_row users first.thread (answered_thread first.answer)) (given_line users lines first) rest

@@ -3,7 +3,6 @@ use Rattle.std.specs.Prelude.{◌≡◌, ℕ, ◌==◌, ◌&&◌, if◌then◌el
 use Rattle.std.specs.List.{AllByRecursion}
 use Rattle.qx_types.specs.Managers.{manager_number}
 use Rattle.qx_types.specs.declared.names.Manager.{Manager}
-use Rattle.qx_types.specs.declared.names.Manager.TheVariants.{Pipe}
 use Rattle.qx_types.specs.declared.names.TheConstants.Manager.{COUNT}
 use Rattle.qx_types.specs.declared.names.Proc.{Proc}
 use Rattle.qx_types.specs.declared.names.Thread.{Thread}
@@ -45,9 +44,9 @@ abbrev pub asked_call : ℕ → ℕ → Option ThreadRow → Bool
 asked_call number call None = false
 asked_call number call (Some row) = is_asked_at number call row.calls row.state
 
--- a thread in this state waits for the answer to that call at the pipe manager, which was served and could not be answered yet
+-- a thread in this state waits for the answer to that call, which was served and could not be answered yet
 abbrev pub is_waiting_for : ℕ → ℕ → State → Bool
-is_waiting_for call calls (Waiting sent) = (manager_number sent.target.manager == manager_number Pipe) && (calls == call)
+is_waiting_for call calls (Waiting sent) = calls == call
 is_waiting_for call calls _ = false
 
 abbrev pub waits_for : ℕ → Option ThreadRow → Bool

@@ -8,7 +8,7 @@ use Rattle.qx_chan.proofs.answers.give_all.Given as goal
 abbrev pub invariant-loop-taken : goal.invariant-loop-taken
 invariant-loop-taken l = record {
   users : given_users l.users l.queues.answered ≡ given_users l.initial.users l.initial.queues.answered;
-  queues : ◌≡◌ {A = Shared} (record l.queues { lines = given_lines l.queues.lines l.queues.answered; answered = [] }) (record l.initial.queues { lines = given_lines l.initial.queues.lines l.initial.queues.answered; answered = [] });
+  queues : ◌≡◌ {A = Shared} (record l.queues { lines = given_lines l.users l.queues.lines l.queues.answered; answered = [] }) (record l.initial.queues { lines = given_lines l.initial.users l.initial.queues.lines l.initial.queues.answered; answered = [] });
   kept : Answering l.users l.queues;
 }
 
