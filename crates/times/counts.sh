@@ -30,7 +30,7 @@ for kind in lookup make; do for at in '1 10' '1 1000' '8 10' '8 1000'; do script
 for at in '10 0' '240 0' '1000 0' '1000 240' '1000 990'; do script 300 list $at; done; script 50 parts 1000 240
 for writes in 0 1 4 16; do script 100 whole $writes; done
 for at in '1 0' '16 0' '16 1' '16 100' '16 1000'; do script 200 beside $at; done
-for bytes in 1 4096; do for kind in place late; do script 1000 $kind $bytes; done; done
+for bytes in 1 4096; do for kind in place late box late_box; do script 1000 $kind $bytes; done; done
 for readers in 0 1 63; do for kind in settle portions; do script 100 $kind $readers; done; done
 for at in '0 0' '63 0' '0 15' '63 15' '0 255'; do script 1000 waiting $at; done
 for at in 'a 0' 'a 1' 'a 64' 'a 128' 'b 128'; do script 1000 events $at; done

@@ -137,6 +137,10 @@ late() {
   crowd 1 1; echo 'show a'; manager=pipe
   serve a.1.1 read 3 "$1"; serve a.1.2 fill 3 "$1" 07; echo 'reply a.1.1'; echo 'reply a.1.2'
 }
+# The same two at a mailbox, the device that a pipe of one message is.
+box_for() { crowd 1 1; echo 'mount a.1.1 /a/m mailbox'; first open /a/m/f rwc 644; echo 'show a'; manager=mailbox; }
+box() { box_for; ask fill 4 "$1" 07; ask read 4 "$1"; }
+late_box() { box_for; serve a.1.1 read 4 "$1"; serve a.1.2 fill 4 "$1" 07; echo 'reply a.1.1'; echo 'reply a.1.2'; }
 # READERS threads read a byte each, before or behind one write of as many.
 readers() { for ((r = 0; r < $1; r++)); do "$2" "a.$((r / 4 + 1)).$((r % 4 + 1))"; done; }
 read_one() { serve "$1" read 3 1; }

@@ -1,8 +1,8 @@
 -- What the bell's functions did.
 use Rattle.std.proofs.Common.{◌≡◌, ℕ, true, List, [], length, Option, None, Result, Ok, refl, sym, ap, ◌∙◌, slice_set}
 use Rattle.std.specs.Prelude.{◌==◌}
-use Rattle.qx_types.specs.declared.errno.Errno.{Errno}
-use Rattle.qx_types.specs.declared.errno.Errno.TheVariants.{EBADF}
+use Rattle.qx_errno.specs.declared.Errno.{Errno}
+use Rattle.qx_errno.specs.declared.Errno.TheVariants.{EBADF}
 use Rattle.qx_types.specs.declared.outcome.Answer.TheVariants as answer
 use Rattle.qx_machine.specs.declared.rows.Effect.TheVariants.{Closes, Keeps, Opens}
 use Rattle.qx_machine.specs.declared.rows.NewOpen.{NewOpen}

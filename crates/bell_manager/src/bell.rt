@@ -34,13 +34,13 @@ impl Model for Bell {
 pub struct Bells;
 
 impl Model for Bells {
-    ghost use Rattle.std.specs.Prelude.{[]};
+    ghost use Rattle.std.specs.Prelude.{[], None};
     ghost use Rattle.qx_machine.specs.Pipes.{pipe_of};
     ghost use Rattle.bell_manager.specs.Bell as bell;
 
     ghost Value = { bell.Bells };
 
-    ghost view = { λ _. record { blocks = []; place = pipe_of [] [] [] } };
+    ghost view = { λ _. record { blocks = []; place = pipe_of None [] [] [] } };
 }
 
 impl State<Shared, Bells> for Bell {
@@ -61,12 +61,12 @@ impl Bell {
         requires inode { inode ≤ INODES }
         requires none { row_at (pipes_of shared.old user.0) inode ≡ None }
         ensures bell { IfOk result (λ b. b ≡ bell.new_bell user.0 inode) }
-        ensures place { OnOk result (shared.new ≡ with_row_at shared.old user.0 inode (Some (pipe_of [] [] []))) }
+        ensures place { OnOk result (shared.new ≡ with_row_at shared.old user.0 inode (Some (pipe_of None [] [] []))) }
         ensures fits { IfOk result (λ b. bell.HasOwnPlace b shared.new) }
         ensures err { OnErr result (shared.new ≡ shared.old) }
     {
         let blocks = Blocks::new(alloc)?;
-        shared.add_pipe(user, inode)?;
+        shared.add_pipe(user, inode, None)?;
         // Tells that each inode has a place for its pipe.
         let _is_there = shared.has_pipe(user, inode);
         Ok(Bell {

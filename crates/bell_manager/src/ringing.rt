@@ -14,9 +14,10 @@ use std::alloc::AllocError;
 pub struct Ringing;
 
 impl Connect<Bell, Shared, Bells> for Ringing {
-    ghost connect = { bell_connect };
+    ghost connect = { λ _. bell_connect };
 
     fn open(
+        &self,
         state: &mut Bell,
         _waits: &mut Shared,
         over: Result<NewOpen, Errno>,
@@ -52,6 +53,7 @@ impl Connect<Bell, Shared, Bells> for Ringing {
     }
 
     fn stat(
+        &self,
         _state: &mut Bell,
         _waits: &mut Shared,
         _root: Result<u32, Errno>,
@@ -63,6 +65,7 @@ impl Connect<Bell, Shared, Bells> for Ringing {
     }
 
     fn unlink(
+        &self,
         _state: &mut Bell,
         _waits: &mut Shared,
         _root: Result<u32, Errno>,
@@ -73,6 +76,7 @@ impl Connect<Bell, Shared, Bells> for Ringing {
     }
 
     fn mknod(
+        &self,
         _state: &mut Bell,
         _waits: &mut Shared,
         _root: Result<u32, Errno>,
@@ -87,11 +91,12 @@ impl Connect<Bell, Shared, Bells> for Ringing {
 impl Io<Bell, Shared, Bells> for Ringing {
     ghost use Rattle.bell_manager.specs.Bell.{CanWork};
 
-    ghost io = { bell_io };
+    ghost io = { λ _. bell_io };
 
     ghost ready = { CanWork };
 
     fn read(
+        &self,
         state: &mut Bell,
         waits: &mut Shared,
         opened: Result<Opened, Errno>,
@@ -112,6 +117,7 @@ impl Io<Bell, Shared, Bells> for Ringing {
     }
 
     fn write(
+        &self,
         state: &mut Bell,
         waits: &mut Shared,
         opened: Result<Opened, Errno>,
@@ -132,6 +138,7 @@ impl Io<Bell, Shared, Bells> for Ringing {
     }
 
     fn close(
+        &self,
         state: &mut Bell,
         waits: &mut Shared,
         opened: Result<Opened, Errno>,
@@ -152,6 +159,7 @@ impl Io<Bell, Shared, Bells> for Ringing {
     }
 
     fn dup(
+        &self,
         _state: &mut Bell,
         _waits: &mut Shared,
         _dup: Result<NewDup, Errno>,
@@ -160,6 +168,7 @@ impl Io<Bell, Shared, Bells> for Ringing {
     }
 
     fn lseek(
+        &self,
         _state: &mut Bell,
         _waits: &mut Shared,
         _opened: Result<Opened, Errno>,
@@ -170,6 +179,7 @@ impl Io<Bell, Shared, Bells> for Ringing {
     }
 
     fn fstat(
+        &self,
         _state: &mut Bell,
         _waits: &mut Shared,
         _opened: Result<Opened, Errno>,
@@ -179,6 +189,7 @@ impl Io<Bell, Shared, Bells> for Ringing {
     }
 
     fn list(
+        &self,
         _state: &mut Bell,
         _waits: &mut Shared,
         _opened: Result<Opened, Errno>,
@@ -189,6 +200,7 @@ impl Io<Bell, Shared, Bells> for Ringing {
     }
 
     fn chmod(
+        &self,
         _state: &mut Bell,
         _waits: &mut Shared,
         _opened: Result<Opened, Errno>,
@@ -198,6 +210,7 @@ impl Io<Bell, Shared, Bells> for Ringing {
     }
 
     fn notify(
+        &self,
         _state: &mut Bell,
         _waits: &mut Shared,
         _opened: Result<Opened, Errno>,

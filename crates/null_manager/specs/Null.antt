@@ -1,7 +1,7 @@
 -- The null manager: nothing is ever read, and what is written is gone. No read and no write waits, so both conditions always hold.
 use Rattle.std.specs.Prelude.{ℕ, ◌≡◌, ◌≤◌, ◌<◌, ◌==◌, Bool, true, List, [], ◌∷◌, Option, Some, None, Result, Ok, length, nat_le, nat_lt, slice_set}
-use Rattle.qx_types.specs.declared.errno.Errno.{Errno}
-use Rattle.qx_types.specs.declared.errno.Errno.TheVariants.{EBADF, ENFILE, ENOENT}
+use Rattle.qx_errno.specs.declared.Errno.{Errno}
+use Rattle.qx_errno.specs.declared.Errno.TheVariants.{EBADF, ENFILE, ENOENT}
 use Rattle.qx_types.specs.declared.fields.NotifyAction.{NotifyAction}
 use Rattle.qx_types.specs.declared.flags.OFlags.{OFlags}
 use Rattle.qx_types.specs.declared.limits.TheConstants.Limits.{BLOCKS, PROCESSES}

@@ -13,9 +13,10 @@ use std::alloc::AllocError;
 pub struct Null;
 
 impl Connect<Kept, AllEvents, Told> for Null {
-    ghost connect = { null_connect };
+    ghost connect = { λ _. null_connect };
 
     fn open(
+        &self,
         state: &mut Kept,
         _waits: &mut AllEvents,
         over: Result<NewOpen, Errno>,
@@ -51,6 +52,7 @@ impl Connect<Kept, AllEvents, Told> for Null {
     }
 
     fn stat(
+        &self,
         _state: &mut Kept,
         _waits: &mut AllEvents,
         _root: Result<u32, Errno>,
@@ -62,6 +64,7 @@ impl Connect<Kept, AllEvents, Told> for Null {
     }
 
     fn unlink(
+        &self,
         _state: &mut Kept,
         _waits: &mut AllEvents,
         _root: Result<u32, Errno>,
@@ -72,6 +75,7 @@ impl Connect<Kept, AllEvents, Told> for Null {
     }
 
     fn mknod(
+        &self,
         _state: &mut Kept,
         _waits: &mut AllEvents,
         _root: Result<u32, Errno>,
@@ -86,13 +90,14 @@ impl Connect<Kept, AllEvents, Told> for Null {
 impl Io<Kept, AllEvents, Told> for Null {
     ghost use Rattle.null_manager.specs.Null.{MayArm, got_events};
 
-    ghost io = { null_io };
+    ghost io = { λ _. null_io };
 
-    ghost wants = { λ opened bytes. got_events };
+    ghost wants = { λ _ opened bytes. got_events };
 
     ghost ready = { MayArm };
 
     fn read(
+        &self,
         _state: &mut Kept,
         _waits: &mut AllEvents,
         opened: Result<Opened, Errno>,
@@ -105,6 +110,7 @@ impl Io<Kept, AllEvents, Told> for Null {
     }
 
     fn write(
+        &self,
         _state: &mut Kept,
         _waits: &mut AllEvents,
         opened: Result<Opened, Errno>,
@@ -115,6 +121,7 @@ impl Io<Kept, AllEvents, Told> for Null {
     }
 
     fn close(
+        &self,
         state: &mut Kept,
         waits: &mut AllEvents,
         opened: Result<Opened, Errno>,
@@ -129,6 +136,7 @@ impl Io<Kept, AllEvents, Told> for Null {
     }
 
     fn dup(
+        &self,
         _state: &mut Kept,
         _waits: &mut AllEvents,
         _dup: Result<NewDup, Errno>,
@@ -137,6 +145,7 @@ impl Io<Kept, AllEvents, Told> for Null {
     }
 
     fn lseek(
+        &self,
         _state: &mut Kept,
         _waits: &mut AllEvents,
         _opened: Result<Opened, Errno>,
@@ -147,6 +156,7 @@ impl Io<Kept, AllEvents, Told> for Null {
     }
 
     fn fstat(
+        &self,
         _state: &mut Kept,
         _waits: &mut AllEvents,
         _opened: Result<Opened, Errno>,
@@ -156,6 +166,7 @@ impl Io<Kept, AllEvents, Told> for Null {
     }
 
     fn list(
+        &self,
         _state: &mut Kept,
         _waits: &mut AllEvents,
         _opened: Result<Opened, Errno>,
@@ -166,6 +177,7 @@ impl Io<Kept, AllEvents, Told> for Null {
     }
 
     fn chmod(
+        &self,
         _state: &mut Kept,
         _waits: &mut AllEvents,
         _opened: Result<Opened, Errno>,
@@ -175,6 +187,7 @@ impl Io<Kept, AllEvents, Told> for Null {
     }
 
     fn notify(
+        &self,
         state: &mut Kept,
         waits: &mut AllEvents,
         opened: Result<Opened, Errno>,

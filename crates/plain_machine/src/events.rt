@@ -4,7 +4,8 @@ use crate::Plain;
 use plain_rules::events::Event;
 use plain_rules::files::{Fault, PipeLook};
 use plain_rules::messages::{from_place, number_at};
-use qx_types::{Coid, Manager, Outcome, Proc, User};
+use plain_rules::pipes::has_waiters;
+use qx_types::{Coid, Outcome, Proc, User};
 
 /// Where the body of a message stands.
 const BODY: usize = 8;
@@ -52,18 +53,18 @@ impl Plain {
             .map(|row| row.coid)
     }
 
-    /// One of the connections of a process that have a block in a pipe mount, by its place among them, and how it has a
-    /// pipe open.
+    /// One of the connections of a process that have a block in a mount of pipes or devices, by its place among them,
+    /// and how it has one open.
     pub fn pipe_look(&self, proc: Proc, place: usize) -> Option<(Coid, PipeLook)> {
         let coid = self.pipe_connection(proc, place)?;
         let row = self.connection(proc, coid)?;
         Some((coid, self.files.pipe_look(proc.user, row.block?)?))
     }
 
-    /// Whether a process has an event armed over one of its connections to a pipe mount.
+    /// Whether a process has an event armed over one of its connections to a mount of pipes or devices.
     pub fn has_armed_pipe(&self, proc: Proc) -> bool {
         self.connections.iter().any(|row| row.proc == proc
-            && row.manager == Manager::Pipe
+            && has_waiters(row.manager)
             && row.block.is_some()
             && !self.is_unarmed(proc.user, row.block))
     }

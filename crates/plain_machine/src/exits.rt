@@ -8,7 +8,7 @@ use std::alloc::AllocError;
 
 impl Plain {
     /// Ends a process. Its threads go, with their messages, pulses and answers, and what it has attached; blocks and calls
-    /// in pipes stay, and what workers hold.
+    /// that wait stay, and what workers hold.
     pub fn exit(&mut self, proc: Proc) -> Result<Outcome, AllocError> {
         if !self.processes.contains(&proc) {
             return Ok(Outcome::WrongState);
@@ -17,11 +17,11 @@ impl Plain {
         self.ended.push(proc)?;
         self.threads.retain(|row| row.thread.proc != proc);
         self.connections.retain(|row| row.proc != proc);
-        self.ram.retain(|queued| !queued.post.is_of_thread(proc));
-        self.pipe.retain(|queued| !queued.post.is_of_thread(proc));
+        self.lines.retain(|queued| !queued.post.is_of_thread(proc));
         self.files.abandon(proc);
-        self.settle_server(proc, Manager::Ram)?;
-        self.settle_server(proc, Manager::Pipe)?;
+        for manager in (0..Manager::COUNT).filter_map(Manager::of_number) {
+            self.settle_server(proc, manager)?;
+        }
         Ok(Outcome::Done)
     }
 
@@ -35,7 +35,7 @@ impl Plain {
         Ok(())
     }
 
-    /// Whether an ended process has a server connection, an item in a worker's hand, or a call in a pipe.
+    /// Whether an ended process has a server connection, an item in a worker's hand, or a call that waits.
     fn is_kept(&self, proc: Proc) -> bool {
         self.servers.iter().any(|server| server.name.proc == proc)
             || self.hands.iter().any(|hand| hand.post.proc() == proc)
@@ -62,12 +62,12 @@ impl Plain {
         self.files.blocking_process(user)
     }
 
-    /// How many calls of ended processes wait in pipes.
+    /// How many calls of ended processes wait.
     pub fn gone_calls(&self) -> usize {
         self.files.waiting(Who::Gone)
     }
 
-    /// Whether calls of ended processes wait in the pipe that a connection of a process has open.
+    /// Whether calls of ended processes wait in the pipe or at the device that a connection of a process has open.
     pub fn has_gone(&self, proc: Proc, coid: Coid) -> bool {
         match self.connection(proc, coid).and_then(|row| row.block) {
             Some(block) => self.files.has_gone(proc.user, block),
@@ -75,8 +75,8 @@ impl Plain {
         }
     }
 
-    /// Whether that call of a thread waits in a pipe.
-    pub fn is_in_pipe(&self, thread: Thread, call: u64) -> bool {
+    /// Whether that call of a thread waits.
+    pub fn is_waiting(&self, thread: Thread, call: u64) -> bool {
         self.files.waiting(Who::Call(thread, call)) > 0
     }
 

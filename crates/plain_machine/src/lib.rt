@@ -24,7 +24,7 @@ use plain_rules::files::Files;
 pub use plain_rules::files::ServerName;
 use plain_rules::messages::{Reading, read, write};
 use plain_rules::paths::{Mount, Mounts, judge_form, text_of};
-use plain_rules::pipes::Answers;
+use plain_rules::pipes::{Answers, has_waiters};
 use qx_types::{
     Answer, Bytes, Coid, Config, Errno, Manager, Outcome, Prio, Proc, Request, Step, Thread, User,
     Worker,
@@ -44,8 +44,7 @@ pub struct Plain {
     servers: Vec<ServerConnection>,
     mounts: Mounts,
     files: Files,
-    ram: Vec<Queued>,
-    pipe: Vec<Queued>,
+    lines: Vec<Queued>,
     hands: Vec<Hand>,
 }
 
@@ -62,8 +61,7 @@ impl Drop for Plain {
             servers: _,
             mounts: _,
             files: _,
-            ram: _,
-            pipe: _,
+            lines: _,
             hands: _,
         } = self;
     }
@@ -102,8 +100,7 @@ impl Plain {
             connections: Vec::new(alloc),
             servers: Vec::new(alloc),
             files,
-            ram: Vec::new(alloc),
-            pipe: Vec::new(alloc),
+            lines: Vec::new(alloc),
             hands: Vec::new(alloc),
         })
     }
@@ -214,10 +211,11 @@ impl Plain {
             })?;
         }
         let item = Queued {
+            manager: sent.manager,
             post: Post::Message(thread),
             prio: sent.prio,
         };
-        line_up(self.line_mut(sent.manager), item)?;
+        line_up(&mut self.lines, item)?;
         if let Some(row) = self.row_mut(thread) {
             row.calls = calls;
             row.state = State::Queued(sent);
@@ -342,7 +340,7 @@ impl Plain {
         match &row.state {
             State::Queued(sent) => {
                 let (manager, over) = (sent.manager, sent.over);
-                self.drop_post(manager, Post::Message(thread));
+                self.drop_post(Post::Message(thread));
                 self.end_call(thread, manager, over, Answer::Failed(Errno::EINTR))?;
             }
             State::Taken(sent) if !sent.is_asked => {
@@ -350,11 +348,12 @@ impl Plain {
                 self.ask_unblock(thread, manager, prio)?;
             }
             State::Waiting {
+                manager,
                 prio,
                 is_asked: false,
             } => {
-                let prio = *prio;
-                self.ask_unblock(thread, Manager::Pipe, prio)?;
+                let (manager, prio) = (*manager, *prio);
+                self.ask_unblock(thread, manager, prio)?;
             }
             State::Ready | State::Taken(_) | State::Waiting { .. } | State::Answered(_) => {}
         }
@@ -375,7 +374,12 @@ impl Plain {
                 State::Waiting { is_asked, .. } => *is_asked = true,
                 State::Ready | State::Queued(_) | State::Answered(_) => {}
             }
-            line_up(self.line_mut(manager), Queued { post, prio })?;
+            let item = Queued {
+                manager,
+                post,
+                prio,
+            };
+            line_up(&mut self.lines, item)?;
         }
         Ok(())
     }
@@ -387,7 +391,7 @@ impl Plain {
         if self.hand(worker).is_some() {
             return Ok(Outcome::Busy);
         }
-        let Some(post) = first_out(self.line_mut(manager)) else {
+        let Some(post) = first_out(&mut self.lines, manager) else {
             return Ok(Outcome::Idle);
         };
         let bytes = self.received(post)?;
@@ -437,6 +441,7 @@ impl Plain {
             self.set_state(
                 thread,
                 State::Waiting {
+                    manager: sent.manager,
                     prio: sent.prio,
                     is_asked: sent.is_asked,
                 },
@@ -460,23 +465,23 @@ impl Plain {
         if let (Over::New(coid), Answer::Failed(_)) = (over, &answer) {
             self.detach(thread.proc, coid);
         }
-        self.give(thread, manager, answer);
+        self.give(thread, answer);
         self.settle_server(thread.proc, manager)
     }
 
-    /// Answers those whose calls were in a pipe.
+    /// Answers those whose calls were in a pipe or at a device.
     fn answer_all(&mut self, answers: Answers) {
         for (thread, answer) in answers {
-            self.give(thread, Manager::Pipe, answer);
+            self.give(thread, answer);
         }
     }
 
     /// Gives a thread its answer. A pulse that would unblock it from its call is not needed any more.
-    fn give(&mut self, thread: Thread, manager: Manager, answer: Answer) {
+    fn give(&mut self, thread: Thread, answer: Answer) {
         if let Some(row) = self.row_mut(thread) {
             row.state = State::Answered(answer);
             let post = Post::Unblock(thread, row.calls);
-            self.drop_post(manager, post);
+            self.drop_post(post);
         }
     }
 
@@ -507,11 +512,11 @@ impl Plain {
             .map(|row| row.coid)
     }
 
-    /// One of the connections of a process that have a block in a pipe mount, by its place among them.
+    /// One of the connections of a process that have a block in a mount of pipes or devices, by its place among them.
     pub fn pipe_connection(&self, proc: Proc, place: usize) -> Option<Coid> {
         self.connections
             .iter()
-            .filter(|row| row.proc == proc && row.manager == Manager::Pipe && row.block.is_some())
+            .filter(|row| row.proc == proc && has_waiters(row.manager) && row.block.is_some())
             .nth(place)
             .map(|row| row.coid)
     }
@@ -540,11 +545,23 @@ impl Plain {
         }
     }
 
-    /// The path of one of a user's mounts of the pipe manager, by its place among them.
+    /// The path of one of a user's mounts of pipes or devices, by its place among them.
     pub fn pipe_mount(&self, user: User, place: usize) -> Option<&Bytes> {
         self.mounts
-            .of_manager(user, Manager::Pipe, place)
+            .with_waiters(user, place)
             .map(|mount| &mount.text)
+    }
+
+    /// The first of the managers of which a user has the fewest mounts.
+    pub fn least_mounted(&self, user: User) -> Manager {
+        let mut least = (usize::MAX, Manager::Ram);
+        for manager in (0..Manager::COUNT).filter_map(Manager::of_number) {
+            let count = self.mounts.count(user, manager);
+            if count < least.0 {
+                least = (count, manager);
+            }
+        }
+        least.1
     }
 
     /// One of the connections of a process that have a block for writing a file, by its place among them, and the offset.
@@ -588,10 +605,10 @@ impl Plain {
 
     /// How many items stand in a manager's line.
     pub fn waiting(&self, manager: Manager) -> usize {
-        match manager {
-            Manager::Ram => self.ram.len(),
-            Manager::Pipe => self.pipe.len(),
-        }
+        self.lines
+            .iter()
+            .filter(|queued| queued.manager == manager)
+            .count()
     }
 
     fn row_mut(&mut self, thread: Thread) -> Option<&mut Row> {
@@ -616,16 +633,9 @@ impl Plain {
         }
     }
 
-    fn line_mut(&mut self, manager: Manager) -> &mut Vec<Queued> {
-        match manager {
-            Manager::Ram => &mut self.ram,
-            Manager::Pipe => &mut self.pipe,
-        }
-    }
-
     /// Drops an item where it stands in a line.
-    fn drop_post(&mut self, manager: Manager, post: Post) {
-        self.line_mut(manager).retain(|queued| queued.post != post);
+    fn drop_post(&mut self, post: Post) {
+        self.lines.retain(|queued| queued.post != post);
     }
 
     fn is_worker(&self, worker: Worker) -> bool {

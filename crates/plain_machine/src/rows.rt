@@ -24,13 +24,17 @@ pub struct Sent {
     pub bytes: Bytes,
 }
 
-/// What a thread is doing. One that waits in a pipe has no message any more.
+/// What a thread is doing. One that waits in a pipe or at a device has no message any more.
 #[derive(Drop)]
 pub enum State {
     Ready,
     Queued(Sent),
     Taken(Sent),
-    Waiting { prio: Prio, is_asked: bool },
+    Waiting {
+        manager: Manager,
+        prio: Prio,
+        is_asked: bool,
+    },
     Answered(Answer),
 }
 
@@ -95,9 +99,10 @@ impl Post {
     }
 }
 
-/// An item of a line.
+/// An item of a manager's line.
 #[derive(Clone, Copy)]
 pub struct Queued {
+    pub manager: Manager,
     pub post: Post,
     pub prio: Prio,
 }
@@ -110,20 +115,20 @@ pub struct Hand {
     pub bytes: Option<Bytes>,
 }
 
-/// Puts an item behind all of its priority, before the first of a lower one.
-pub fn line_up(line: &mut Vec<Queued>, item: Queued) -> Result<(), AllocError> {
-    let place = line.iter().position(|other| other.prio.0 < item.prio.0);
+/// Puts an item behind all of its priority, before the first of a lower one in its manager's line. The lines of all
+/// managers are one vector.
+pub fn line_up(lines: &mut Vec<Queued>, item: Queued) -> Result<(), AllocError> {
+    let place = lines.iter().position(|other| other.manager == item.manager
+        && other.prio.0 < item.prio.0);
     match place {
-        Some(place) => line.insert(place, item)?,
-        None => line.push(item)?,
+        Some(place) => lines.insert(place, item)?,
+        None => lines.push(item)?,
     }
     Ok(())
 }
 
-/// Takes the first item out of a line.
-pub fn first_out(line: &mut Vec<Queued>) -> Option<Post> {
-    if line.is_empty() {
-        return None;
-    }
-    Some(line.remove(0).post)
+/// Takes the first item out of a manager's line.
+pub fn first_out(lines: &mut Vec<Queued>, manager: Manager) -> Option<Post> {
+    let place = lines.iter().position(|queued| queued.manager == manager)?;
+    Some(lines.remove(place).post)
 }

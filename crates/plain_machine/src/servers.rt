@@ -80,10 +80,11 @@ impl Plain {
         if let Some(server) = found {
             server.is_leaving = true;
             let item = Queued {
+                manager,
                 post: Post::Disconnect(server.name),
                 prio: Prio(63),
             };
-            line_up(self.line_mut(manager), item)?;
+            line_up(&mut self.lines, item)?;
         }
         Ok(())
     }

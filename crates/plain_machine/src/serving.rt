@@ -4,7 +4,7 @@ use crate::Plain;
 use crate::rows::{Over, Sent};
 use plain_rules::files::{Fault, Place};
 use plain_rules::messages::{Kind, Reading, from_place, number_at, read};
-use plain_rules::pipes::Caller;
+use plain_rules::pipes::{Caller, has_waiters};
 use qx_types::{Answer, Coid, Errno, Manager, MessageBytes, OFlags, Proc, Thread};
 use std::alloc::AllocError;
 
@@ -17,7 +17,7 @@ const BODY: usize = 8;
 const REST: usize = 12;
 
 impl Plain {
-    /// The answer to a message of a thread, unless its call was answered in a pipe or waits there.
+    /// The answer to a message of a thread, unless its call was answered in a pipe or at a device, or waits there.
     pub fn answer(
         &mut self,
         thread: Thread,
@@ -42,7 +42,7 @@ impl Plain {
         }
     }
 
-    /// Both managers have functions for all messages, but the pipe manager none for mknod.
+    /// All managers have functions for all messages, but those of pipes and devices none for mknod.
     fn done(
         &mut self,
         thread: Thread,
@@ -50,9 +50,9 @@ impl Plain {
         moment: u64,
         kind: Kind,
     ) -> Result<Option<Reply>, Fault> {
-        match (sent.manager, kind) {
-            (Manager::Pipe, Kind::Mknod) => Err(Fault::Refused(Errno::ENOSYS)),
-            (Manager::Pipe, Kind::Read | Kind::Write) => {
+        match kind {
+            Kind::Mknod if has_waiters(sent.manager) => Err(Fault::Refused(Errno::ENOSYS)),
+            Kind::Read | Kind::Write if has_waiters(sent.manager) => {
                 self.in_pipe(thread, sent, moment, kind)?;
                 Ok(None)
             }
@@ -76,7 +76,7 @@ impl Plain {
         }
     }
 
-    /// A read from a pipe or a write to one: who is answered by it may be others, and the call may wait.
+    /// A read from a pipe or a device, or a write to one: who is answered by it may be others, and the call may wait.
     fn in_pipe(
         &mut self,
         thread: Thread,

@@ -1,4 +1,4 @@
-//! The rules of files, directories and pipes once more, over plain vectors: a row for each path that leads somewhere,
+//! The rules of files, directories, pipes and devices once more, over plain vectors: a row for each path that leads somewhere,
 //! one for each inode and one for each open block, of all users.
 
 mod events;

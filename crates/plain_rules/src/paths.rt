@@ -1,5 +1,6 @@
 //! Paths and mounts once more, plainly. A path's text is its components, each behind one slash.
 
+use crate::pipes::has_waiters;
 use qx_types::{Bytes, Config, Errno, Manager, User};
 use std::alloc::{AllocError, Global};
 
@@ -75,12 +76,20 @@ impl Mounts {
         Ok(())
     }
 
-    /// One of a user's mounts of a manager, by its place among them.
-    pub fn of_manager(&self, user: User, manager: Manager, place: usize) -> Option<&Mount> {
+    /// One of a user's mounts of managers at which calls may wait, by its place among them.
+    pub fn with_waiters(&self, user: User, place: usize) -> Option<&Mount> {
         self.rows
             .iter()
-            .filter(|mount| mount.user == user && mount.manager == manager)
+            .filter(|mount| mount.user == user && has_waiters(mount.manager))
             .nth(place)
+    }
+
+    /// How many mounts of a manager a user has beside the top.
+    pub fn count(&self, user: User, manager: Manager) -> usize {
+        self.rows
+            .iter()
+            .filter(|mount| mount.user == user && mount.manager == manager && mount.root != 1)
+            .count()
     }
 
     /// Whether a user may attach a manager at the path of a text.

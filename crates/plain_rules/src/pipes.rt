@@ -1,13 +1,13 @@
-//! The rules of pipes once more, over plain vectors.
+//! The rules of pipes once more, over plain vectors, and those of devices, where calls wait as in pipes.
 
 mod given;
+mod kept;
 
 pub use given::{Answers, Given};
-use qx_types::{Bytes, Errno, Proc, Thread};
+pub use kept::MANAGERS;
+use kept::{Kept, Told};
+use qx_types::{Bytes, Device, Errno, Manager, Proc, Thread};
 use std::alloc::{AllocError, Global};
-
-/// The most bytes that stand in a pipe.
-const PIPE: usize = 4_096;
 
 /// A thread's call of that number over an open block, whether it was asked to unblock its thread, and whether its process
 /// has ended.
@@ -20,12 +20,12 @@ pub struct Caller {
     pub is_gone: bool,
 }
 
-/// The bytes that stand in a pipe, and who waits, in order of waiting: to read at most so many bytes, or to write these.
-/// No reader waits where bytes stand, and no first writer whose bytes fit.
+/// The bytes of a pipe or a device, and who waits there, in order of waiting: to read at most so many bytes, or to write
+/// these. No first reader waits that could be told something, and no first writer.
 #[derive(Drop)]
 pub struct Pipe {
     alloc: Global,
-    bytes: Vec<u8>,
+    kept: Kept,
     readers: Vec<(Caller, usize)>,
     writers: Vec<(Caller, Bytes)>,
 }
@@ -53,12 +53,20 @@ impl Who {
     }
 }
 
+/// Whether calls may wait at a manager.
+pub fn has_waiters(manager: Manager) -> bool {
+    match manager {
+        Manager::Ram => false,
+        Manager::Pipe | Manager::Device(_) => true,
+    }
+}
+
 impl Pipe {
-    /// No bytes, and nobody waits.
-    pub fn new(alloc: Global) -> Pipe {
+    /// No bytes, and nobody waits. Without a device it is a pipe.
+    pub fn new(alloc: Global, device: Option<Device>) -> Pipe {
         Pipe {
             alloc,
-            bytes: Vec::new(alloc),
+            kept: Kept::new(alloc, device),
             readers: Vec::new(alloc),
             writers: Vec::new(alloc),
         }
@@ -66,7 +74,22 @@ impl Pipe {
 
     /// How many bytes stand.
     pub fn len(&self) -> usize {
-        self.bytes.len()
+        self.kept.len()
+    }
+
+    /// Whether it is a device.
+    pub fn is_device(&self) -> bool {
+        self.kept.is_device()
+    }
+
+    /// Whether a read would find something, and a write room. A device is there whoever has it open; of a pipe comes the
+    /// end where nobody has it open for the other side.
+    pub fn may_read(&self, has_writer: bool) -> bool {
+        self.kept.may_read() || !has_writer && !self.is_device()
+    }
+
+    pub fn may_write(&self, has_reader: bool) -> bool {
+        self.kept.may_write() || !has_reader && !self.is_device()
     }
 
     /// How many of those who wait are some of these.
@@ -82,7 +105,7 @@ impl Pipe {
             .writers
             .iter()
             .find(|(caller, _)| caller.thread.proc != proc)?;
-        if self.has_room(bytes.len()) {
+        if self.kept.has_room(bytes.len()) {
             Some(proc)
         } else {
             None
@@ -104,8 +127,8 @@ impl Pipe {
         Ok(given)
     }
 
-    /// The pipe is cleaned, and at most so many bytes are read. Where none stand, the end is read if no block is for
-    /// writing; else the call waits, or is refused if there is an error for that.
+    /// The pipe is cleaned, and at most so many bytes are read. Nothing is at once, and the end of a pipe where none stand and
+    /// no block is for writing. Else the call is told in its turn: where it waits, it is refused if there is an error for that.
     pub fn read(
         &mut self,
         caller: Caller,
@@ -114,21 +137,21 @@ impl Pipe {
         refusal: Option<Errno>,
     ) -> Result<Given, AllocError> {
         let mut given = self.clean()?;
-        if count == 0 || self.bytes.is_empty() && !has_writer {
+        let has_come = count == 0 || self.len() == 0 && !has_writer;
+        if has_come && !self.is_device() {
             given.reply(caller.thread, 0, Vec::new(self.alloc))?;
-        } else if self.bytes.is_empty()
-            && let Some(error) = refusal
-        {
+        } else if self.readers.is_empty() && given.tell(caller.thread, self.kept.read(count)?)? {
+            self.settle(&mut given)?;
+        } else if let Some(error) = refusal {
             given.fail(caller.thread, error)?;
         } else {
             self.readers.push((caller, count))?;
-            self.settle(&mut given)?;
         }
         Ok(given)
     }
 
-    /// The pipe is cleaned, and these bytes are written. Where they don't fit, or others wait to write, the call waits, or
-    /// is refused if there is an error for that.
+    /// The pipe is cleaned, and these bytes are written. To a pipe no bytes are at once, and others are refused where no block
+    /// is for reading. Else the call is told in its turn: where it waits, it is refused if there is an error for that.
     pub fn write(
         &mut self,
         caller: Caller,
@@ -137,22 +160,22 @@ impl Pipe {
         refusal: Option<Errno>,
     ) -> Result<Given, AllocError> {
         let mut given = self.clean()?;
-        let goes_in = self.writers.is_empty() && self.has_room(bytes.len());
-        if bytes.is_empty() {
+        if bytes.is_empty() && !self.is_device() {
             given.reply(caller.thread, 0, Vec::new(self.alloc))?;
-        } else if !has_reader {
+        } else if !has_reader && !self.is_device() {
             given.fail(caller.thread, Errno::EPIPE)?;
-        } else if !goes_in && let Some(error) = refusal {
+        } else if self.writers.is_empty() && self.put(caller.thread, bytes, &mut given)? {
+            self.settle(&mut given)?;
+        } else if let Some(error) = refusal {
             given.fail(caller.thread, error)?;
         } else {
             let bytes = Bytes::from_slice(self.alloc, bytes)?;
             self.writers.push((caller, bytes))?;
-            self.settle(&mut given)?;
         }
         Ok(given)
     }
 
-    /// The pipe is cleaned, a block goes, and these are left.
+    /// The pipe is cleaned, a block goes, and these are left. A device is there for both sides whatever is left.
     pub fn release(
         &mut self,
         block: u16,
@@ -161,6 +184,23 @@ impl Pipe {
     ) -> Result<Given, AllocError> {
         let mut given = self.clean()?;
         self.refuse(Who::OnBlock(block), Errno::EBADF, &mut given)?;
+        if !self.is_device() {
+            self.end_sides(has_reader, has_writer, &mut given)?;
+        }
+        self.settle(&mut given)?;
+        if !has_reader && !has_writer && !self.is_device() {
+            self.kept.clear();
+        }
+        Ok(given)
+    }
+
+    /// Readers of a pipe read the end where no block is for writing, and writers are refused where none is for reading.
+    fn end_sides(
+        &mut self,
+        has_reader: bool,
+        has_writer: bool,
+        given: &mut Given,
+    ) -> Result<(), AllocError> {
         if !has_writer {
             for (caller, _) in self.readers.iter() {
                 given.reply(caller.thread, 0, Vec::new(self.alloc))?;
@@ -168,13 +208,9 @@ impl Pipe {
             self.readers.clear();
         }
         if !has_reader {
-            refuse(&mut self.writers, Who::All, Errno::EPIPE, &mut given)?;
+            refuse(&mut self.writers, Who::All, Errno::EPIPE, given)?;
         }
-        self.settle(&mut given)?;
-        if !has_reader && !has_writer {
-            self.bytes.clear();
-        }
-        Ok(given)
+        Ok(())
     }
 
     /// The pipe is cleaned, and the call of a thread is interrupted, if it waits here still.
@@ -191,7 +227,7 @@ impl Pipe {
         refuse(&mut self.writers, who, error, given)
     }
 
-    /// Serves the first reader while bytes stand, and else the first writer while its bytes fit.
+    /// Serves the first reader, if it can be told something, and else the first writer, until neither can.
     fn settle(&mut self, given: &mut Given) -> Result<(), AllocError> {
         for _ in 0..self.readers.len().saturating_add(self.writers.len()) {
             if !self.serve_reader(given)? && !self.serve_writer(given)? {
@@ -202,34 +238,37 @@ impl Pipe {
     }
 
     fn serve_reader(&mut self, given: &mut Given) -> Result<bool, AllocError> {
-        if self.bytes.is_empty() || self.readers.is_empty() {
+        let Some((caller, count)) = self.readers.first() else {
             return Ok(false);
+        };
+        let is_told = given.tell(caller.thread, self.kept.read(*count)?)?;
+        if is_told {
+            let _ = self.readers.remove(0);
         }
-        let (caller, count) = self.readers.remove(0);
-        let rest = Vec::from_slice(self.alloc, self.bytes.get(count..).unwrap_or(&[]))?;
-        let mut bytes = std::mem::replace(&mut self.bytes, rest);
-        bytes.truncate(count);
-        given.reply(caller.thread, bytes.len() as u64, bytes)?;
-        Ok(true)
+        Ok(is_told)
     }
 
     fn serve_writer(&mut self, given: &mut Given) -> Result<bool, AllocError> {
-        let Some((_, bytes)) = self.writers.first() else {
-            return Ok(false);
-        };
-        if !self.has_room(bytes.len()) {
+        if self.writers.is_empty() {
             return Ok(false);
         }
         let (caller, bytes) = self.writers.remove(0);
-        self.bytes.extend_from_slice(bytes.as_slice())?;
-        given.is_written = true;
-        given.reply(caller.thread, bytes.len() as u64, Vec::new(self.alloc))?;
-        Ok(true)
+        if self.put(caller.thread, bytes.as_slice(), given)? {
+            return Ok(true);
+        }
+        self.writers.insert(0, (caller, bytes))?;
+        Ok(false)
     }
 
-    /// Whether so many bytes fit beside those that stand.
-    pub fn has_room(&self, count: usize) -> bool {
-        self.bytes.len().saturating_add(count) <= PIPE
+    /// A thread writes these bytes. Whether it is told anything.
+    fn put(&mut self, thread: Thread, bytes: &[u8], given: &mut Given) -> Result<bool, AllocError> {
+        let told = self.kept.write(bytes)?;
+        if let Told::Gives(status, _) = &told
+            && *status > 0
+        {
+            given.is_written = true;
+        }
+        given.tell(thread, told)
     }
 }
 

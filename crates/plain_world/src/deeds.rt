@@ -2,7 +2,7 @@
 
 use plain_machine::{Over, Plain, Post, Row, Sent, State};
 use plain_rules::messages::{Kind, Reading, number_at, read};
-use qx_types::{Answer, Errno, Manager, Request, Step, Thread, Worker};
+use qx_types::{Answer, Device, Errno, Manager, Request, Step, Thread, Worker};
 
 /// What a step does, in two words.
 pub type Deed = (&'static str, &'static str);
@@ -104,8 +104,8 @@ fn interrupt_word(row: &Row) -> &'static str {
         State::Queued(_) => "in a line",
         State::Taken(sent) if sent.is_asked => "asked already",
         State::Taken(_) => "received",
-        State::Waiting { is_asked: true, .. } => "in a pipe, asked already",
-        State::Waiting { .. } => "in a pipe",
+        State::Waiting { is_asked: true, .. } => "waiting, asked already",
+        State::Waiting { .. } => "waiting",
     }
 }
 
@@ -113,6 +113,7 @@ fn manager_word(manager: Manager) -> &'static str {
     match manager {
         Manager::Ram => "ram",
         Manager::Pipe => "pipe",
+        Manager::Device(device) => device.word(),
     }
 }
 
@@ -175,7 +176,7 @@ fn is_shared(plain: &Plain, thread: Thread, over: Over) -> bool {
     }
 }
 
-/// Whether a message of a thread goes over a connection to a pipe in which calls of ended processes wait.
+/// Whether a message of a thread goes over a connection to a pipe or a device where calls of ended processes wait.
 fn finds_gone(plain: &Plain, thread: Thread, over: Over) -> bool {
     match over {
         Over::Existing(coid) => plain.has_gone(thread.proc, coid),
@@ -185,11 +186,12 @@ fn finds_gone(plain: &Plain, thread: Thread, over: Over) -> bool {
 
 /// How a message was answered, or that it waits. That there is no function for it is not told, and that its connection
 /// has no block is told for all kinds in one, but for a read and a write, where EBADF has another cause too, for dups and
-/// for notifications.
+/// for notifications. The errors of a device's manager are told for all kinds in one, but for a read and a write.
 pub fn answer_deed(plain: &Plain, served: Served) -> Option<Deed> {
     let Served { thread, kind, .. } = served;
-    let word = served_word(served);
-    match &plain.row(thread)?.state {
+    let state = &plain.row(thread)?.state;
+    let word = answer_word(served, state);
+    match state {
         State::Answered(Answer::Reply(status, bytes)) => {
             Some((word, reply_word(served, *status, bytes.as_slice())))
         }
@@ -204,6 +206,36 @@ pub fn answer_deed(plain: &Plain, served: Served) -> Option<Deed> {
     }
 }
 
+/// What is told before the answer: what was served; but that a device's manager refuses a message of any other kind than a
+/// read and a write, and of those two the device, where it says the answer.
+fn answer_word(served: Served, state: &State) -> &'static str {
+    match (served.manager, served.kind) {
+        (Manager::Device(device), Kind::Read) if is_told(state) => read_word(device),
+        (Manager::Device(device), Kind::Write) if is_told(state) => write_word(device),
+        (Manager::Device(_), Kind::Read | Kind::Write) => served_word(served),
+        (Manager::Device(_), _) if is_refused(state) => "device refuses",
+        _ => served_word(served),
+    }
+}
+
+/// Whether a thread waits, or was answered what a device says: a reply, or an error that no other rule has.
+fn is_told(state: &State) -> bool {
+    match state {
+        State::Answered(Answer::Failed(error)) => {
+            !matches!(
+                error,
+                Errno::EBADF | Errno::EISDIR | Errno::EAGAIN | Errno::EINTR
+            )
+        }
+        _ => true,
+    }
+}
+
+/// Whether a thread was answered an error.
+fn is_refused(state: &State) -> bool {
+    matches!(state, State::Answered(Answer::Failed(_)))
+}
+
 /// The kind of a message and its manager; of a notification its action.
 fn served_word(served: Served) -> &'static str {
     match (served.manager, served.kind, served.subtype) {
@@ -213,8 +245,12 @@ fn served_word(served: Served) -> &'static str {
         (Manager::Pipe, Kind::Notify, 0) => "pipe poll",
         (Manager::Pipe, Kind::Notify, 1) => "pipe pollarm",
         (Manager::Pipe, Kind::Notify, _) => "pipe tranarm",
+        (Manager::Device(_), Kind::Notify, 0) => "device poll",
+        (Manager::Device(_), Kind::Notify, 1) => "device pollarm",
+        (Manager::Device(_), Kind::Notify, _) => "device tranarm",
         (Manager::Ram, kind, _) => kind_word(kind),
         (Manager::Pipe, kind, _) => pipe_word(kind),
+        (Manager::Device(_), kind, _) => device_word(kind),
     }
 }
 
@@ -257,12 +293,46 @@ fn pipe_word(kind: Kind) -> &'static str {
     }
 }
 
-/// How a thread was answered that waited in a pipe, if it was.
+/// The kind of a message of a device's manager.
+fn device_word(kind: Kind) -> &'static str {
+    match kind {
+        Kind::Open => "device open",
+        Kind::Stat => "device stat",
+        Kind::Unlink => "device unlink",
+        Kind::Read => "device read",
+        Kind::Write => "device write",
+        Kind::Close => "device close",
+        Kind::Lseek => "device lseek",
+        Kind::Fstat => "device fstat",
+        Kind::List => "device list",
+        Kind::Chmod => "device chmod",
+        Kind::Dup => "device dup",
+        Kind::Mknod | Kind::Notify => "no function",
+    }
+}
+
+/// A read of a device.
+fn read_word(device: Device) -> &'static str {
+    match device {
+        Device::Mailbox => "mailbox read",
+        _ => "latch read",
+    }
+}
+
+/// A write to a device.
+fn write_word(device: Device) -> &'static str {
+    match device {
+        Device::Mailbox => "mailbox write",
+        _ => "latch write",
+    }
+}
+
+/// How a thread was answered that waited in a pipe or at a device, if it was.
 pub fn waited_deed(plain: &Plain, thread: Thread) -> Option<Deed> {
     match &plain.row(thread)?.state {
         State::Answered(Answer::Reply(status, bytes)) => {
             let word = match (*status, bytes.as_slice().is_empty()) {
-                (0, _) => "read the end",
+                (0, _) => "read nothing",
                 (_, false) => "read something",
                 (_, true) => "wrote something",
             };
@@ -301,7 +371,8 @@ fn status_word(bytes: &[u8]) -> &'static str {
         (_, Some(0)) => "of no name",
         (Some(1), _) => "of a file",
         (Some(2), _) => "of a directory",
-        _ => "of a pipe",
+        (Some(3), _) => "of a pipe",
+        _ => "of a device",
     }
 }
 
@@ -311,6 +382,7 @@ fn place_deed(sent: &Sent) -> Option<Deed> {
         (Manager::Ram, 1) => "the top",
         (Manager::Ram, _) => "a ram mount",
         (Manager::Pipe, _) => "a pipe mount",
+        (Manager::Device(_), _) => "a device mount",
     };
     if has_rest(sent) {
         Some(("below", mount))
@@ -333,8 +405,8 @@ fn found_word(plain: &Plain, thread: Thread, call: u64) -> Option<&'static str> 
     match &row.state {
         State::Taken(_) if is_later => Some("a later call received"),
         State::Taken(_) => Some("its call received"),
-        State::Waiting { .. } if is_later => Some("a later call in a pipe"),
-        State::Waiting { .. } => Some("its call in a pipe"),
+        State::Waiting { .. } if is_later => Some("a later call waiting"),
+        State::Waiting { .. } => Some("its call waiting"),
         State::Queued(_) => Some("a later call in a line"),
         State::Ready | State::Answered(_) => Some("answered"),
     }

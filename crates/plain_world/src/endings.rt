@@ -37,7 +37,7 @@ fn had_by(alloc: Global, plain: &Plain, proc: Proc) -> Result<Vec<Deed>, AllocEr
         (plain.has_armed(proc), "an armed event"),
         (plain.has_pulse(proc), "a pulse to take"),
         (plain.has_left(proc), "a server connection left before"),
-        (is_at_both(plain, proc), "both managers"),
+        (is_at_several(plain, proc), "several managers"),
     ];
     for (holds, word) in rows {
         if holds {
@@ -47,8 +47,12 @@ fn had_by(alloc: Global, plain: &Plain, proc: Proc) -> Result<Vec<Deed>, AllocEr
     Ok(deeds)
 }
 
-fn is_at_both(plain: &Plain, proc: Proc) -> bool {
-    plain.is_connected(proc, Manager::Ram) && plain.is_connected(proc, Manager::Pipe)
+fn is_at_several(plain: &Plain, proc: Proc) -> bool {
+    let managers = (0..Manager::COUNT).filter_map(Manager::of_number);
+    managers
+        .filter(|manager| plain.is_connected(proc, *manager))
+        .count()
+        > 1
 }
 
 /// What a thread of a process is doing that is about to end, and where the pulse is that asks to unblock it.
@@ -61,9 +65,9 @@ fn thread_word(plain: &Plain, row: &Row) -> &'static str {
         State::Taken(_) if is_held => "received, and its pulse too",
         State::Taken(sent) if sent.is_asked => "received, its pulse in a line",
         State::Taken(_) => "received",
-        State::Waiting { .. } if is_held => "in a pipe, its pulse received",
-        State::Waiting { is_asked: true, .. } => "in a pipe, its pulse in a line",
-        State::Waiting { .. } => "in a pipe",
+        State::Waiting { .. } if is_held => "waiting, its pulse received",
+        State::Waiting { is_asked: true, .. } => "waiting, its pulse in a line",
+        State::Waiting { .. } => "waiting",
     }
 }
 
@@ -93,8 +97,8 @@ fn late_item(plain: &Plain, worker: Worker) -> Option<Deed> {
     }
     match post {
         Post::Message(_) => Some(("of an ended process", "message")),
-        Post::Unblock(thread, call) if plain.is_in_pipe(thread, call) => {
-            Some(("of an ended process", "unblock, its call in a pipe"))
+        Post::Unblock(thread, call) if plain.is_waiting(thread, call) => {
+            Some(("of an ended process", "unblock, its call waiting"))
         }
         Post::Unblock(..) => Some(("of an ended process", "unblock")),
         Post::Disconnect(name) if plain.has_blocks(name) => {
@@ -148,9 +152,12 @@ pub fn counted_deed(
 
 /// Whether a process can't have a server connection at a manager where one is of an ended process of its user.
 fn server_counts(plain: &Plain, proc: Proc) -> bool {
-    !plain.may_connect(proc, Manager::Ram) && plain.has_late_server(proc.user, Manager::Ram)
-        || !plain.may_connect(proc, Manager::Pipe)
-            && plain.has_late_server(proc.user, Manager::Pipe)
+    for manager in (0..Manager::COUNT).filter_map(Manager::of_number) {
+        if !plain.may_connect(proc, manager) && plain.has_late_server(proc.user, manager) {
+            return true;
+        }
+    }
+    false
 }
 
 /// What a message was refused as too many, where some are of processes that have ended.

@@ -24,7 +24,7 @@ pub struct Before {
 }
 
 /// How many inodes there are and pulses that nobody has taken, and of server connections how many leave; of processes that
-/// have ended, how many are kept, how many events they have armed, and how many of their calls wait in pipes.
+/// have ended, how many are kept, how many events they have armed, and how many of their calls wait.
 #[derive(Clone, Copy)]
 struct Counts {
     inodes: usize,
@@ -169,12 +169,14 @@ impl Before {
     }
 }
 
-/// Whether a message reads or writes where calls of ended processes wait.
+/// Whether a message reads from a pipe or writes to one where calls of ended processes wait.
 fn may_clean(served: Served) -> bool {
-    served.finds_gone && matches!(served.kind, Kind::Read | Kind::Write)
+    served.finds_gone
+        && served.manager == Manager::Pipe
+        && matches!(served.kind, Kind::Read | Kind::Write)
 }
 
-/// The threads that wait in pipes.
+/// The threads that wait in pipes and at devices.
 fn waiting_threads(alloc: Global, plain: &Plain) -> Result<Vec<Thread>, AllocError> {
     let mut waiting = Vec::new(alloc);
     for row in plain.threads() {

@@ -33,6 +33,7 @@ fn kind_code(kind: Kind) -> u16
         Kind::File => 1,
         Kind::Directory => 2,
         Kind::Pipe => 3,
+        Kind::Device(_) => 4,
     }
 }
 

@@ -3,11 +3,13 @@
 //! `Bytes`, of a path, a name or a request, stands here; `MessageBytes`, of a message or an answer, in `message.rt`.
 #![tactic(auto)]
 
+pub mod buffer;
 pub mod message;
 
 ghost use Rattle.std.specs.Prelude.{◌≡◌, ◌==◌, IfOk, length, []};
 ghost use Rattle.std.specs.Str.{bytes_eq};
 
+pub use buffer::Buffer;
 pub use message::MessageBytes;
 use std::alloc::{AllocError, Global};
 use std::marker::Model;

@@ -10,7 +10,7 @@ use Rattle.std.specs.List.{AllByRecursion, flat_map, list_any}
 use Rattle.std.specs.Option.{option_to_list}
 use Rattle.std.specs.Prelude.{IfSome, option_map, take, if◌then◌else◌}
 use Rattle.std.proofs.lemmas.Bool.{cases_eq, cases_lt, eqb-false, eqb-true}
-use Rattle.std.proofs.lemmas.List.{append-nil, append_assoc, get_or-set_other, get_or-set_same, length-set, map-append, take_all}
+use Rattle.std.proofs.lemmas.List.{append-nil, append_assoc, get_or-set_other, get_or-set_same, length-set, map-append, take_all, take_more}
 use Rattle.qx_types.specs.Managers.{manager_number}
 use Rattle.qx_types.specs.declared.names.Manager.{Manager}
 use Rattle.qx_types.specs.declared.names.TheConstants.Manager.{COUNT}
@@ -32,6 +32,7 @@ use Rattle.qx_machine.specs.Pipes.{Pipe}
 use Rattle.qx_machine.specs.Processes.{Process, ended, has_ended, living, lost_servers, received_by}
 use Rattle.qx_isolation.specs.Rows.{row_at, with_row}
 use Rattle.qx_machine.specs.Waiting.{Pipes, is_of_process, no_pipes}
+use Rattle.std.proofs.lemmas.Grind.{flat_map-append}
 use Rattle.std.proofs.Math.Bool.{and-not_self}
 use Rattle.qx_isolation.proofs.Places.{at-map}
 use Rattle.qx_process.specs.Reads.{LosesAll, is_at}
@@ -39,7 +40,7 @@ use Rattle.qx_queues.specs.Queues.{stands, unblock_call}
 use Rattle.qx_queues.proofs.EntryLemmas.{line_at-other, line_at-same}
 use Rattle.qx_queues.proofs.LineLemmas.{call-replied_other, call-withdrawn, replied-none, stands-replied, stands-withdrawn_other}
 use Rattle.qx_queues.proofs.NodesLemmas.{same_proc}
-use Rattle.qx_shared.specs.Shared.{Shared, calls_at, has_disconnect_node, has_thread, pipes_of, users_waiting, waiting_calls, waiting_in, with_shared_line}
+use Rattle.qx_shared.specs.Shared.{Shared, calls_at, has_disconnect_node, has_thread, pipes_of, users_waiting, waiting_calls, waiting_in, with_shared_line, with_shared_disconnect}
 use Rattle.qx_chan.specs.Channel.{after_exit, ended_in}
 use Rattle.qx_chan.specs.inner.Ending.{AllHaveNodes, Drops, DropsBelow, HasNothing, IsAsBefore, StandsFor, dropped_below}
 use Rattle.qx_chan.specs.inner.Kept.{IsWaiting, StandTogether, asked_call, has_nodes, is_asked_at, may_wait, nodes_for, stands_at, with_lost, is_queued_at}
@@ -261,15 +262,39 @@ any-listed manager [] = refl
 any-listed manager (None ∷ lost) = any-listed manager lost
 any-listed manager (Some server ∷ lost) = ap (λ b. is_at manager (Some server) || b) (any-listed manager lost)
 
--- the second that was lost has its node still, once the first pulse stands in its line
-pub second-there : (queues : Shared) (proc : Proc) (lost : List (Option ServerName)) → AllHaveNodes queues proc lost → (first second : Option ServerName) → row_at lost 0 ≡ first → row_at lost 1 ≡ second
-    → IfSome second (λ server. IsTrue (has_disconnect_node (with_lost proc (option_to_list first) queues) proc (manager_number server.manager)))
-second-there queues proc lost nodes first None is there = tt
-second-there queues proc lost nodes None (Some server) is there = subst (λ row. IfSome row (λ server. IsTrue (has_disconnect_node queues proc (manager_number server.manager)))) there (nodes.there 1)
-second-there queues proc lost nodes (Some other) (Some server) is there =
-    let had : has_disconnect_node queues proc (manager_number server.manager) ≡ true = subst (λ row. IfSome row (λ server. IsTrue (has_disconnect_node queues proc (manager_number server.manager)))) there (nodes.there 1) in
-    let apart = nodes.apart 0 1 other server (λ same. omega (arith, same)) is there in
-    lost-nodes proc (other ∷ []) queues server.manager ∙ rw (had, eqb-differs (manager_number other.manager) (manager_number server.manager) apart) refl
+-- none of the first so many was at a manager
+none-before : (number : ℕ) (lost : List (Option ServerName)) (manager : Manager)
+    → ((before : ℕ) (server : ServerName) → before < number → row_at lost before ≡ Some server → is_at manager (Some server) ≡ false) → list_any (is_at manager) (take number lost) ≡ false
+none-before zero lost manager apart = refl
+none-before (suc number) [] manager apart = refl
+none-before (suc number) (None ∷ lost) manager apart = none-before number lost manager (λ before server below. apart (suc before) server (omega (arith, below)))
+none-before (suc number) (Some server ∷ lost) manager apart =
+    rw (apart 0 server (omega arith) refl) (none-before number lost manager (λ before other below. apart (suc before) other (omega (arith, below))))
+
+-- one that was lost has its node still, once the pulses of those before it stand in their lines
+pub next-there : (queues : Shared) (proc : Proc) (lost : List (Option ServerName)) → AllHaveNodes queues proc lost → (number : ℕ) (next : Option ServerName) → row_at lost number ≡ next
+    → IfSome next (λ server. IsTrue (has_disconnect_node (with_lost proc (flat_map option_to_list (take number lost)) queues) proc (manager_number server.manager)))
+next-there queues proc lost nodes number None is = tt
+next-there queues proc lost nodes number (Some server) is =
+    let had : has_disconnect_node queues proc (manager_number server.manager) ≡ true = subst (λ row. IfSome row (λ server. IsTrue (has_disconnect_node queues proc (manager_number server.manager)))) is (nodes.there number) in
+    let none : list_any (λ other. is_at server.manager (Some other)) (flat_map option_to_list (take number lost)) ≡ false =
+    sym (any-listed server.manager (take number lost))
+    ∙ none-before number lost server.manager (λ before other below there.
+    eqb-differs (manager_number other.manager) (manager_number server.manager) (nodes.apart before number other server (λ same. omega (arith, same, below)) there is)) in
+    lost-nodes proc (flat_map option_to_list (take number lost)) queues server.manager ∙ rw (had, none) refl
+
+with_lost-more : (proc : Proc) (before more : List ServerName) (queues : Shared) → with_lost proc (before ++ more) queues ≡ with_lost proc more (with_lost proc before queues)
+with_lost-more proc [] more queues = refl
+with_lost-more proc (server ∷ before) more queues = with_lost-more proc before more (with_shared_disconnect queues proc server)
+
+-- and its own pulse then
+pub with_lost-next : (queues : Shared) (proc : Proc) (lost : List (Option ServerName)) (number : ℕ) → number < length lost
+    → with_lost proc (flat_map option_to_list (take (number + 1) lost)) queues ≡ with_lost proc (option_to_list (get_or lost number None)) (with_lost proc (flat_map option_to_list (take number lost)) queues)
+with_lost-next queues proc lost number within =
+    let next : Option ServerName = get_or lost number None in
+    ap (λ some. with_lost proc (flat_map option_to_list some) queues) (take_more lost number None within)
+    ∙ ap (λ some. with_lost proc some queues) (flat_map-append option_to_list (take number lost) (next ∷ []) ∙ ap (λ some. flat_map option_to_list (take number lost) ++ some) (append-nil (option_to_list next)))
+    ∙ with_lost-more proc (flat_map option_to_list (take number lost)) (option_to_list next) queues
 
 -- ---- calls that wait
 

@@ -7,7 +7,7 @@ use Rattle.std.specs.Prelude.{if◌then◌else◌, is_some, option_map, take}
 use Rattle.std.proofs.lemmas.List.{append-nil}
 use Rattle.std.proofs.lemmas.Result.{IfOk-at_ok}
 use Rattle.qx_types.specs.Managers.{manager_number}
-use Rattle.qx_types.specs.declared.errno.Errno.{Errno}
+use Rattle.qx_errno.specs.declared.Errno.{Errno}
 use Rattle.qx_types.specs.declared.names.Coid.{Coid}
 use Rattle.qx_types.specs.declared.names.Manager.{Manager}
 use Rattle.qx_types.specs.declared.names.Thread.{Thread}
@@ -312,7 +312,7 @@ module _ (users : Users) (w : AllTables) (thread : Thread) (call : Call) (its : 
       existing = asked-existing its.process (caller_of_call thread call) call.target moment (meaning its.sent.bytes) it.opened it.asks it.over
 
       own : LeavesOwn (told k w) it.opened (meant k l v of moment)
-      own = asked-own (told k w) (context k l v of moment) (meaning its.sent.bytes) it.opened it.asks it.pipe it.over
+      own = asked-own (told k w) (context k l v of moment) (meaning its.sent.bytes) it.opened it.asks it.calls it.over
 
       same : served_by k l v of moment (meant k l v of moment) ≡ served_by k l v of moment (Ok (told_deed deed one.status one.bytes))
       same =
@@ -324,7 +324,7 @@ module _ (users : Users) (w : AllTables) (thread : Thread) (call : Call) (its : 
 
       keeps : InDeed (Waits users k.user) (told_deed deed one.status one.bytes)
       keeps = record {
-        pipes = IfOk-at_ok (KeepsPipes (Waits users k.user) (told k w) it.opened) is (asked-pipes (told k w) (context k l v of moment) (meaning its.sent.bytes) it.opened it.asks it.pipe it.over (Waits users k.user) (waits-before users k.user w.shared kept.waits))
+        pipes = IfOk-at_ok (KeepsPipes (Waits users k.user) (told k w) it.opened) is (asked-pipes (told k w) (context k l v of moment) (meaning its.sent.bytes) it.opened it.asks it.calls it.over (Waits users k.user) (waits-before users k.user w.shared kept.waits))
             one.alone (one.call, answer.Reply one.status one.bytes) [] one.answers;
         answers = tt;
       }

@@ -8,7 +8,7 @@ use Rattle.std.proofs.lemmas.Bool.Decides.{eqb_tells, nat_tests}
 use Rattle.std.proofs.lemmas.List.{get_or-replicate, length-replicate}
 use Rattle.qx_types.proofs.Managers.{number_below}
 use Rattle.qx_types.specs.Managers.{manager_number}
-use Rattle.qx_types.specs.declared.errno.Errno.TheVariants.{EAGAIN, EINVAL}
+use Rattle.qx_errno.specs.declared.Errno.TheVariants.{EAGAIN, EINVAL}
 use Rattle.qx_types.specs.declared.limits.TheConstants.Limits.{PRIORITY, PROCESSES, THREADS}
 use Rattle.qx_types.specs.declared.names.Manager.{Manager}
 use Rattle.qx_types.specs.declared.names.TheConstants.Manager.{COUNT}

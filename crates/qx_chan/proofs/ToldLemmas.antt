@@ -1,11 +1,12 @@
 -- A deed of a pipe in which nobody waits, told as a reply to its own message, serves the message in the same way.
-use Rattle.std.proofs.Common.{◌≡◌, inl, inr, ℕ, ◌==◌, List, [], ◌∷◌, ◌++◌, length, drop, take, map, Bool, true, refl, sym, ap, ◌∙◌, subst, arith}
-use Rattle.std.specs.Prelude.{Option, Some, None, Result, Ok, Err, IfOk, not, option_map, slice_set}
+use Rattle.std.proofs.Common.{◌≡◌, inl, inr, ℕ, ◌==◌, List, [], ◌∷◌, ◌++◌, length, take, map, Bool, true, refl, sym, ap, ◌∙◌, subst, arith}
+use Rattle.std.specs.Prelude.{Option, Some, None, Result, Ok, Err, IfOk, option_map, slice_set}
 use Rattle.std.specs.List.{AllByRecursion}
 use Rattle.std.proofs.lemmas.Bool.{and_parts, cond_both, eqb-true}
 use Rattle.std.proofs.lemmas.Option.{same_Some}
-use Rattle.qx_types.specs.declared.errno.Errno.{Errno}
-use Rattle.qx_types.specs.declared.errno.Errno.TheVariants.{EBADF, EINVAL, EISDIR}
+use Rattle.qx_errno.specs.declared.Errno.{Errno}
+use Rattle.qx_errno.specs.declared.Errno.TheVariants.{EBADF, EINVAL, EISDIR}
+use Rattle.qx_devices.specs.declared.Device.{Device}
 use Rattle.qx_types.specs.declared.names.Coid.{Coid}
 use Rattle.qx_types.specs.declared.names.Manager.{Manager}
 use Rattle.qx_types.specs.declared.names.Manager.TheVariants as manager
@@ -31,11 +32,12 @@ use Rattle.qx_machine.specs.declared.rows.WaitingCall.{WaitingCall}
 use Rattle.qx_machine.specs.Functions.{Deed, Reply, function_deed}
 use Rattle.qx_machine.specs.Inodes.{reads, writes}
 use Rattle.qx_isolation.specs.Judgements.{found, need}
-use Rattle.qx_machine.specs.Managers.{manager_deed, pipe_io}
+use Rattle.qx_machine.specs.Managers.{manager_deed, own_kind}
+use Rattle.qx_machine.specs.Names.{has_calls}
 use Rattle.qx_machine.specs.Parts.{Part, Remove, disconnect, disconnects, thread_at, thread_of, with_process}
 use Rattle.qx_machine.specs.Performing.{Served, after_answer, after_message, called_by, called_in, context_of, deed_of, dup_of, opened_by, own_change, served_by, served_changes}
 use Rattle.qx_machine.specs.PipeManager.{read_pipe, write_pipe}
-use Rattle.qx_machine.specs.Pipes.{PipeAfter, Pipe, and_then, clean, clean_read, clean_write, first_answered, fits, nobody_answered, pipe_of, portion, read, served, settle, waiting_unless, with_reader, with_writer, write}
+use Rattle.qx_machine.specs.Pipes.{PipeAfter, Pipe, and_then, clean, clean_read, clean_write, first_answered, nobody_answered, pipe_of, read, settle, told_or_waiting, waiting_unless, write}
 use Rattle.qx_machine.specs.Processes.{Process, answered_thread, served_state, served_thread, with_thread}
 use Rattle.qx_machine.specs.Resources.{Resources}
 use Rattle.qx_isolation.specs.Rows.{row_at}
@@ -55,19 +57,14 @@ module _ {W : Type 0} (wanted : W → ℕ) (offered : W → List ℕ) where
   abbrev OwnAnswers : W → PipeAfter W → Type 0
   OwnAnswers own after = AllByRecursion (λ (a : W × Answer). a.0 ≡ own) after.answers
 
-  -- nobody is served where nobody waits
-  served-none : (bytes : List ℕ) → served wanted offered bytes [] [] ≡ nobody_answered (pipe_of bytes [] [])
-  served-none [] = refl
-  served-none (b ∷ bs) = refl
+  -- nobody waits
+  abbrev alone : Option Device → List ℕ → Pipe W
+  alone device bytes = pipe_of device bytes [] []
 
-  -- so settling leaves such a pipe
-  settle-none : (bytes : List ℕ) → settle wanted offered (pipe_of bytes [] []) ≡ nobody_answered (pipe_of bytes [] [])
+  -- settling leaves that
+  settle-none : (device : Option Device) (bytes : List ℕ) → settle wanted offered (alone device bytes) ≡ nobody_answered (alone device bytes)
   unfolding settle
-  settle-none bytes = served-none bytes
-
-  -- who is answered first, before nobody
-  own-first : (own : W) (given : Answer) (bytes : List ℕ) → OwnAnswers own (first_answered own given (settle wanted offered (pipe_of bytes [] [])))
-  own-first own given bytes = (refl, subst (OwnAnswers own) (sym (settle-none bytes)) tt)
+  settle-none device bytes = refl
 
   -- who waits, or is answered instead
   own-waiting : (manner : Manner) (own : W) (p with_it : Pipe W) → OwnAnswers own (waiting_unless manner own p with_it)
@@ -75,83 +72,61 @@ module _ {W : Type 0} (wanted : W → ℕ) (offered : W → List ℕ) where
       cond_both manner.is_nonblock _ _ (OwnAnswers own) (λ is. (refl, tt))
       (λ is_not. cond_both manner.is_asked _ _ (OwnAnswers own) (λ is. (refl, tt)) (λ is_not. tt))
 
-  -- a READ of such a pipe, once it is clean
-  own-clean_read : (manner : Manner) (own : W) (bytes : List ℕ) → OwnAnswers own (clean_read wanted offered manner own (pipe_of bytes [] []))
-  own-clean_read manner own bytes =
-      cond_both (wanted own == 0) _ _ (OwnAnswers own) (λ is. (refl, tt))
-      (λ is_not. cond_both (not (length bytes == 0)) _ _ (OwnAnswers own) (λ is. own-first own (answer.Reply (portion wanted own bytes) (take (portion wanted own bytes) bytes)) (drop (portion wanted own bytes) bytes))
-      (λ is_not. cond_both (not manner.has_other_side) _ _ (OwnAnswers own) (λ is. (refl, tt))
-      (λ is_not. own-waiting manner own (pipe_of bytes [] []) (with_reader (pipe_of bytes [] []) own))))
-
-  -- a WRITE to such a pipe, once it is clean
-  own-clean_write : (manner : Manner) (own : W) (bytes : List ℕ) → OwnAnswers own (clean_write wanted offered manner own (pipe_of bytes [] []))
-  own-clean_write manner own bytes =
-      cond_both (length (offered own) == 0) _ _ (OwnAnswers own) (λ is. (refl, tt))
-      (λ is_not. cond_both (not manner.has_other_side) _ _ (OwnAnswers own) (λ is. (refl, tt))
-      (λ is_not. cond_both (fits offered bytes own) _ _ (OwnAnswers own) (λ is. own-first own (answer.Reply (length (offered own)) []) (bytes ++ offered own))
-      (λ is_not. own-waiting manner own (pipe_of bytes [] []) (with_writer (pipe_of bytes [] []) own))))
+  -- who is told at once, or in its turn, or waits
+  own-told : (manner : Manner) (own : W) (ended : Option Answer) (told : Option (Answer × List ℕ)) (device : Option Device) (bytes : List ℕ) (with_it : Pipe W) → OwnAnswers own (told_or_waiting wanted offered manner own ended told (alone device bytes) with_it)
+  own-told manner own (Some given) told device bytes with_it = (refl, tt)
+  own-told manner own None (Some (given, left)) device bytes with_it = (refl, subst (OwnAnswers own) (sym (settle-none device left)) tt)
+  own-told manner own None None device bytes with_it = own-waiting manner own (alone device bytes) with_it
 
   -- nobody is answered as such a pipe is cleaned
-  own-cleaned : (gone : W → Bool) (own : W) (next : Pipe W → PipeAfter W) (bytes : List ℕ) → OwnAnswers own (next (pipe_of bytes [] [])) → OwnAnswers own (and_then (clean wanted offered gone (pipe_of bytes [] [])) next)
-  own-cleaned gone own next bytes h = subst (λ (first : PipeAfter W). OwnAnswers own (and_then first next)) (sym (settle-none bytes)) h
+  own-cleaned : (gone : W → Bool) (own : W) (next : Pipe W → PipeAfter W) (device : Option Device) (bytes : List ℕ) → OwnAnswers own (next (alone device bytes)) → OwnAnswers own (and_then (clean wanted offered gone (alone device bytes)) next)
+  own-cleaned gone own next device bytes h = subst (λ (first : PipeAfter W). OwnAnswers own (and_then first next)) (sym (settle-none device bytes)) h
 
-  -- a pipe in which nobody waits has its bytes alone
-  bytes-alone : (p : Pipe W) → p.readers ≡ [] → p.writers ≡ [] → pipe_of p.bytes [] [] ≡ p
-  bytes-alone p none nobody = λ i. record { bytes = p.bytes; readers = sym none i; writers = sym nobody i }
+  -- where nobody waits, nobody does
+  alone-is : (p : Pipe W) → p.readers ≡ [] → p.writers ≡ [] → alone p.device p.bytes ≡ p
+  alone-is p none nobody = λ i. record { device = p.device; bytes = p.bytes; readers = sym none i; writers = sym nobody i }
 
   -- if anyone was answered, nobody waits then
   abbrev StaysAlone : PipeAfter W → Type 0
   StaysAlone after = (first : W × Answer) (rest : List (W × Answer)) → after.answers ≡ first ∷ rest → (after.pipe.readers ≡ []) × (after.pipe.writers ≡ [])
 
-  -- who is answered first leaves nobody
-  stays-first : (own : W) (given : Answer) (bytes : List ℕ) → StaysAlone (first_answered own given (settle wanted offered (pipe_of bytes [] [])))
-  stays-first own given bytes = subst (λ (after : PipeAfter W). StaysAlone (first_answered own given after)) (sym (settle-none bytes)) (λ first rest is. (refl, refl))
-
   -- who waits is not answered
-  stays-waiting : (manner : Manner) (own : W) (bytes : List ℕ) (with_it : Pipe W) → StaysAlone (waiting_unless manner own (pipe_of bytes [] []) with_it)
-  stays-waiting manner own bytes with_it =
+  stays-waiting : (manner : Manner) (own : W) (device : Option Device) (bytes : List ℕ) (with_it : Pipe W) → StaysAlone (waiting_unless manner own (alone device bytes) with_it)
+  stays-waiting manner own device bytes with_it =
       cond_both manner.is_nonblock _ _ StaysAlone (λ is first rest given. (refl, refl))
       (λ is_not. cond_both manner.is_asked _ _ StaysAlone (λ is first rest given. (refl, refl)) (λ is_not first rest given. absurd (cc)))
 
-  stays-clean_read : (manner : Manner) (own : W) (bytes : List ℕ) → StaysAlone (clean_read wanted offered manner own (pipe_of bytes [] []))
-  stays-clean_read manner own bytes =
-      cond_both (wanted own == 0) _ _ StaysAlone (λ is first rest given. (refl, refl))
-      (λ is_not. cond_both (not (length bytes == 0)) _ _ StaysAlone (λ is. stays-first own (answer.Reply (portion wanted own bytes) (take (portion wanted own bytes) bytes)) (drop (portion wanted own bytes) bytes))
-      (λ is_not. cond_both (not manner.has_other_side) _ _ StaysAlone (λ is first rest given. (refl, refl))
-      (λ is_not. stays-waiting manner own bytes (with_reader (pipe_of bytes [] []) own))))
+  stays-told : (manner : Manner) (own : W) (ended : Option Answer) (told : Option (Answer × List ℕ)) (device : Option Device) (bytes : List ℕ) (with_it : Pipe W) → StaysAlone (told_or_waiting wanted offered manner own ended told (alone device bytes) with_it)
+  stays-told manner own (Some given) told device bytes with_it = λ first rest is. (refl, refl)
+  stays-told manner own None (Some (given, left)) device bytes with_it =
+      subst (λ (after : PipeAfter W). StaysAlone (first_answered own given after)) (sym (settle-none device left)) (λ first rest is. (refl, refl))
+  stays-told manner own None None device bytes with_it = stays-waiting manner own device bytes with_it
 
-  stays-clean_write : (manner : Manner) (own : W) (bytes : List ℕ) → StaysAlone (clean_write wanted offered manner own (pipe_of bytes [] []))
-  stays-clean_write manner own bytes =
-      cond_both (length (offered own) == 0) _ _ StaysAlone (λ is first rest given. (refl, refl))
-      (λ is_not. cond_both (not manner.has_other_side) _ _ StaysAlone (λ is first rest given. (refl, refl))
-      (λ is_not. cond_both (fits offered bytes own) _ _ StaysAlone (λ is. stays-first own (answer.Reply (length (offered own)) []) (bytes ++ offered own))
-      (λ is_not. stays-waiting manner own bytes (with_writer (pipe_of bytes [] []) own))))
-
-  stays-cleaned : (gone : W → Bool) (next : Pipe W → PipeAfter W) (bytes : List ℕ) → StaysAlone (next (pipe_of bytes [] [])) → StaysAlone (and_then (clean wanted offered gone (pipe_of bytes [] [])) next)
-  stays-cleaned gone next bytes h = subst (λ (first : PipeAfter W). StaysAlone (and_then first next)) (sym (settle-none bytes)) h
+  stays-cleaned : (gone : W → Bool) (next : Pipe W → PipeAfter W) (device : Option Device) (bytes : List ℕ) → StaysAlone (next (alone device bytes)) → StaysAlone (and_then (clean wanted offered gone (alone device bytes)) next)
+  stays-cleaned gone next device bytes h = subst (λ (first : PipeAfter W). StaysAlone (and_then first next)) (sym (settle-none device bytes)) h
 
   -- where nobody waits, nobody does once a READ is answered, or a WRITE
   pub stays-read : (gone : W → Bool) (manner : Manner) (own : W) (p : Pipe W) → p.readers ≡ [] → p.writers ≡ [] → StaysAlone (read wanted offered gone manner own p)
   stays-read gone manner own p none nobody =
-      subst (λ (q : Pipe W). StaysAlone (read wanted offered gone manner own q)) (bytes-alone p none nobody)
-      (stays-cleaned gone (clean_read wanted offered manner own) p.bytes (stays-clean_read manner own p.bytes))
+      subst (λ (q : Pipe W). StaysAlone (read wanted offered gone manner own q)) (alone-is p none nobody)
+      (stays-cleaned gone (clean_read wanted offered manner own) p.device p.bytes (stays-told manner own _ _ p.device p.bytes _))
 
   pub stays-write : (gone : W → Bool) (manner : Manner) (own : W) (p : Pipe W) → p.readers ≡ [] → p.writers ≡ [] → StaysAlone (write wanted offered gone manner own p)
   stays-write gone manner own p none nobody =
-      subst (λ (q : Pipe W). StaysAlone (write wanted offered gone manner own q)) (bytes-alone p none nobody)
-      (stays-cleaned gone (clean_write wanted offered manner own) p.bytes (stays-clean_write manner own p.bytes))
+      subst (λ (q : Pipe W). StaysAlone (write wanted offered gone manner own q)) (alone-is p none nobody)
+      (stays-cleaned gone (clean_write wanted offered manner own) p.device p.bytes (stays-told manner own _ _ p.device p.bytes _))
 
   -- where nobody waits, all answers of a READ are to its own call
   pub own-read : (gone : W → Bool) (manner : Manner) (own : W) (p : Pipe W) → p.readers ≡ [] → p.writers ≡ [] → AllByRecursion (λ (a : W × Answer). a.0 ≡ own) (read wanted offered gone manner own p).answers
   own-read gone manner own p none nobody =
-      subst (λ (q : Pipe W). OwnAnswers own (read wanted offered gone manner own q)) (bytes-alone p none nobody)
-      (own-cleaned gone own (clean_read wanted offered manner own) p.bytes (own-clean_read manner own p.bytes))
+      subst (λ (q : Pipe W). OwnAnswers own (read wanted offered gone manner own q)) (alone-is p none nobody)
+      (own-cleaned gone own (clean_read wanted offered manner own) p.device p.bytes (own-told manner own _ _ p.device p.bytes _))
 
   -- where nobody waits, all answers of a WRITE are to its own call
   pub own-write : (gone : W → Bool) (manner : Manner) (own : W) (p : Pipe W) → p.readers ≡ [] → p.writers ≡ [] → AllByRecursion (λ (a : W × Answer). a.0 ≡ own) (write wanted offered gone manner own p).answers
   own-write gone manner own p none nobody =
-      subst (λ (q : Pipe W). OwnAnswers own (write wanted offered gone manner own q)) (bytes-alone p none nobody)
-      (own-cleaned gone own (clean_write wanted offered manner own) p.bytes (own-clean_write manner own p.bytes))
+      subst (λ (q : Pipe W). OwnAnswers own (write wanted offered gone manner own q)) (alone-is p none nobody)
+      (own-cleaned gone own (clean_write wanted offered manner own) p.device p.bytes (own-told manner own _ _ p.device p.bytes _))
 
 -- ---- the deeds of the pipe manager
 
@@ -379,29 +354,43 @@ told-serves part caller sent coid r opened (Ok deed) over called same h =
 
 -- ---- what is asked for
 
+-- a manager in whose inodes calls may wait
+abbrev pub HasCalls : Context → Type 0
+HasCalls context = has_calls (own_kind context.target.manager) ≡ true
+
 -- a READ of what is open
-deed-read : (r : Resources) (context : Context) (opened : Opened) (count : ℕ) → context.target.manager ≡ manager.Pipe → context.opened ≡ Ok opened → deed_of r context (Known (msg.Read count)) ≡ read_pipe r opened count
-deed-read r context opened count pipe over = ap (λ manager. manager_deed manager r context (msg.Read count)) pipe ∙ ap (λ opened. function_deed pipe_io.read opened (λ f o. f r o count)) over
+deed-read : (r : Resources) (context : Context) (opened : Opened) (count : ℕ) → HasCalls context → context.opened ≡ Ok opened → deed_of r context (Known (msg.Read count)) ≡ read_pipe r opened count
+deed-read r context opened count calls over = by context.target.manager calls ∙ ap (λ opened. function_deed (Some read_pipe) opened (λ f o. f r o count)) over
+  where
+    by : (manager : Manager) → has_calls (own_kind manager) ≡ true → manager_deed manager r context (msg.Read count) ≡ function_deed (Some read_pipe) context.opened (λ f o. f r o count)
+    by manager.Ram calls = absurd (cc)
+    by manager.Pipe calls = refl
+    by (manager.Device device) calls = refl
 
 -- a WRITE to it
-deed-write : (r : Resources) (context : Context) (opened : Opened) (bytes : List ℕ) → context.target.manager ≡ manager.Pipe → context.opened ≡ Ok opened → deed_of r context (Known (msg.Write bytes)) ≡ write_pipe r opened bytes
-deed-write r context opened bytes pipe over = ap (λ manager. manager_deed manager r context (msg.Write bytes)) pipe ∙ ap (λ opened. function_deed pipe_io.write opened (λ f o. f r o bytes)) over
+deed-write : (r : Resources) (context : Context) (opened : Opened) (bytes : List ℕ) → HasCalls context → context.opened ≡ Ok opened → deed_of r context (Known (msg.Write bytes)) ≡ write_pipe r opened bytes
+deed-write r context opened bytes calls over = by context.target.manager calls ∙ ap (λ opened. function_deed (Some write_pipe) opened (λ f o. f r o bytes)) over
+  where
+    by : (manager : Manager) → has_calls (own_kind manager) ≡ true → manager_deed manager r context (msg.Write bytes) ≡ function_deed (Some write_pipe) context.opened (λ f o. f r o bytes)
+    by manager.Ram calls = absurd (cc)
+    by manager.Pipe calls = refl
+    by (manager.Device device) calls = refl
 
-module _ (r : Resources) (context : Context) (given : Meaning) (opened : Opened) (asks : Asks given) (pipe : context.target.manager ≡ manager.Pipe) (over : context.opened ≡ Ok opened) where
+module _ (r : Resources) (context : Context) (given : Meaning) (opened : Opened) (asks : Asks given) (calls : HasCalls context) (over : context.opened ≡ Ok opened) where
   -- it is left to its answers
   pub asked-own : LeavesOwn r opened (deed_of r context given)
   asked-own = elim asks [
-    | inl read ↦ subst (λ given. LeavesOwn r opened (deed_of r context given)) (sym read.1) (subst (LeavesOwn r opened) (sym (deed-read r context opened read.0 pipe over)) (read_pipe-own r opened read.0))
-    | inr write ↦ subst (λ given. LeavesOwn r opened (deed_of r context given)) (sym write.1) (subst (LeavesOwn r opened) (sym (deed-write r context opened write.0 pipe over)) (write_pipe-own r opened write.0))
+    | inl read ↦ subst (λ given. LeavesOwn r opened (deed_of r context given)) (sym read.1) (subst (LeavesOwn r opened) (sym (deed-read r context opened read.0 calls over)) (read_pipe-own r opened read.0))
+    | inr write ↦ subst (λ given. LeavesOwn r opened (deed_of r context given)) (sym write.1) (subst (LeavesOwn r opened) (sym (deed-write r context opened write.0 calls over)) (write_pipe-own r opened write.0))
   ]
 
   -- and nobody waits but who did, once it is answered
   pub asked-pipes : (P : WaitingCall → Type 0) → InPipes P r.pipes → IfOk (deed_of r context given) (KeepsPipes P r opened)
   asked-pipes P h = elim asks [
     | inl read ↦ subst (λ given. IfOk (deed_of r context given) (KeepsPipes P r opened)) (sym read.1)
-        (subst (λ deed. IfOk deed (KeepsPipes P r opened)) (sym (deed-read r context opened read.0 pipe over)) (read-pipes P r opened read.0 h))
+        (subst (λ deed. IfOk deed (KeepsPipes P r opened)) (sym (deed-read r context opened read.0 calls over)) (read-pipes P r opened read.0 h))
     | inr write ↦ subst (λ given. IfOk (deed_of r context given) (KeepsPipes P r opened)) (sym write.1)
-        (subst (λ deed. IfOk deed (KeepsPipes P r opened)) (sym (deed-write r context opened write.0 pipe over)) (write-pipes P r opened write.0 h))
+        (subst (λ deed. IfOk deed (KeepsPipes P r opened)) (sym (deed-write r context opened write.0 calls over)) (write-pipes P r opened write.0 h))
   ]
 
 -- neither is a dup

@@ -2,8 +2,8 @@
 use Rattle.std.specs.Prelude.{⊤, ℕ, ◌+◌, [], ◌∷◌, ◌++◌, List, Option, Some, None, drop, get_or, if◌then◌else◌, is_some, length, map, option_map, replicate, slice_get, slice_set}
 use Rattle.qx_types.specs.Configuration.{Configuration}
 use Rattle.qx_types.specs.Managers.{manager_number}
-use Rattle.qx_types.specs.declared.errno.Errno.{Errno}
-use Rattle.qx_types.specs.declared.errno.Errno.TheVariants.{EINTR}
+use Rattle.qx_errno.specs.declared.Errno.{Errno}
+use Rattle.qx_errno.specs.declared.Errno.TheVariants.{EINTR}
 use Rattle.qx_types.specs.declared.names.Manager.{Manager}
 use Rattle.qx_types.specs.declared.names.Proc.{Proc}
 use Rattle.qx_types.specs.declared.names.TheConstants.Manager.{COUNT}

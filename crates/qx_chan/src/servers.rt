@@ -12,7 +12,7 @@ ghost use Rattle.qx_chan.specs.Nodes.{attaches};
 use qx_machine::{Over, ServerName, Target};
 use qx_process::{LostServers, Process};
 use qx_shared::Shared;
-use qx_types::Proc;
+use qx_types::{Manager, Proc};
 use std::alloc::AllocError;
 
 /// Makes room for the disconnect node of what a message goes over.
@@ -51,9 +51,9 @@ pub fn disconnect_all(queues: &mut Shared, proc: Proc, lost: LostServers)
     requires there { AllHaveNodes queues.old proc lost }
     ensures disconnected { queues.new ≡ with_lost proc (flat_map option_to_list lost) queues.old }
 {
-    let [first, second] = lost;
-    disconnect(queues, proc, first);
-    disconnect(queues, proc, second);
+    for number in 0..Manager::COUNT {
+        disconnect(queues, proc, lost[number]);
+    }
 }
 
 /// The disconnect pulse of a process that has lost a server connection goes into its manager's line (Writing a Resource

@@ -22,7 +22,7 @@ use Rattle.qx_invariants.specs.Waits.{is_astray, count_waiting_in}
 use Rattle.qx_invariants.proofs.Calls.{abandoned_part, removed_fewer}
 use Rattle.qx_invariants.proofs.Counts.{abandoned_waiting}
 use Rattle.qx_invariants.proofs.Rows.{abandoned-at, content_cases, empty_cases, freed, block_is_new, not_open, put_other, same_open, unused_cases, with_row-at, with_row-other}
-use Rattle.qx_invariants.proofs.Contents.{no_size, none_fits, own_directory, own_file}
+use Rattle.qx_invariants.proofs.Contents.{no_pipe}
 use Rattle.qx_invariants.proofs.Named.{unused_there}
 
 -- ---- none is such
@@ -143,18 +143,17 @@ module _ (r : Resources) (h : HasOpenWaiters r) where
       (λ gone. content_cases HasOpenWaiters own inode (freed inode r) (λ is. record { none_astray = h.none_astray }) (λ is. record { none_astray = (set_astray inode None refl).none_astray }) (λ is. record { none_astray = h.none_astray }))
       (λ stays. h)
 
--- nobody waits over a block in an inode that is no pipe
+-- nobody waits over a block in an inode that is no pipe and no device
 pub nobody_over : (own : Kind) (r : Resources) (number inode : ℕ) → HasContents r → IsOwnInode own r inode → count_waiting_in (is_over number) (pipe_in own r inode) ≡ 0 → count_waiting_in (is_over number) (row_at r.pipes inode) ≡ 0
 nobody_over kind.Pipe r number inode h owned nobody = nobody
-nobody_over kind.File r number inode h owned nobody =
-    ap (count_waiting_in (is_over number)) (none_fits kind.Pipe _ (row_at r.pipes inode) (h.pipes inode ∙ no_size kind.Pipe _ owned.attribute owned.there (own_file owned.attribute.kind owned.owned)))
-nobody_over kind.Directory r number inode h owned nobody =
-    ap (count_waiting_in (is_over number)) (none_fits kind.Pipe _ (row_at r.pipes inode) (h.pipes inode ∙ no_size kind.Pipe _ owned.attribute owned.there (own_directory kind.Pipe owned.attribute.kind (λ same. cc) owned.owned)))
+nobody_over (kind.Device device) r number inode h owned nobody = nobody
+nobody_over kind.File r number inode h owned nobody = ap (count_waiting_in (is_over number)) (no_pipe r h kind.File inode owned refl)
+nobody_over kind.Directory r number inode h owned nobody = ap (count_waiting_in (is_over number)) (no_pipe r h kind.Directory inode owned refl)
 
 pub astray-keeps : (change : ResourceChange) (r : Resources) → MayHappen change r → HasRoom r → HasContents r → HasOpenWaiters r → HasOpenWaiters (with_change change r)
 astray-keeps (Comes inode directory name kind mode moment) r may room contents h =
     empty_cases HasOpenWaiters kind inode (with_named inode (under directory name) (new_attribute kind mode r.user moment) r) (λ is. record { none_astray = h.none_astray })
-    (λ is. record { none_astray = (set_astray r h inode (Some (pipe_of [] [] [])) refl).none_astray }) (λ is. record { none_astray = h.none_astray })
+    (λ device. record { none_astray = (set_astray r h inode (Some (pipe_of device [] [] [])) refl).none_astray }) (λ is. record { none_astray = h.none_astray })
 astray-keeps (Opens number block at) r may room contents h = let new = block_is_new r.inodes number room.some_blocks may.0 in opened_astray r h number block new.free new.within
 astray-keeps (Moves number move) r may room contents h = moved_astray r h number (moved move) may
 astray-keeps (Fills inode moment after came) r may room contents h =

@@ -16,7 +16,7 @@ use Rattle.qx_isolation.specs.Rows.{row_at, put_row, with_row}
 use Rattle.qx_machine.specs.Waiting.{Pipes, is_gone}
 use Rattle.qx_procs.specs.Calls.{has_ended_in}
 use Rattle.qx_invariants.specs.Changes.{Abandons, ResourceChange, Closes, Comes, Fills, MayHappen, Mounts, Unlinks, with_change, with_named, with_unlinked}
-use Rattle.qx_invariants.specs.Holds.{HasOpenWaiters, size_if}
+use Rattle.qx_invariants.specs.Holds.{HasOpenWaiters, calls_of, in_inode}
 use Rattle.qx_invariants.specs.Waits.{count_answers_to, count_waiting, count_waiting_in, count_waiting_of, is_of, though_gone, unless_gone, waits, count_state_waiting}
 use Rattle.qx_invariants.proofs.Astray.{closed_astray, nobody_over, nobody_unused}
 use Rattle.qx_attr.proofs.CountLemmas.{within_table}
@@ -34,7 +34,6 @@ use Rattle.qx_machine.specs.Performing.{with_answer, with_answers}
 use Rattle.qx_machine.specs.Processes.{Process, answered_thread, new_process, new_thread, with_thread}
 use Rattle.qx_attr.specs.inner.Counts.{one}
 use Rattle.qx_attr.proofs.TableLemmas.{row-put}
-use Rattle.qx_machine.specs.declared.rows.Kind.TheVariants as kind
 use Rattle.qx_machine.specs.declared.rows.State.TheVariants as state
 
 -- a pipe is replaced by one in which as many wait
@@ -100,10 +99,10 @@ not_gone false gone is = refl
 balance-keeps : (first : Resources) (change : ResourceChange) (r : Resources) (told : Told) → MayHappen change r → Holds r → Balance first r told → Balance first (with_change change r) (told_by change told)
 balance-keeps first (Comes inode directory name which mode moment) r told may h balance =
     empty_cases (λ (s : Resources). Balance first s told) which inode (with_named inode (under directory name) (new_attribute which mode r.user moment) r) (λ is. balance)
-    (λ is. same_balance first r (record r { pipes = slice_set r.pipes inode (Some (pipe_of [] [] [])) }) told (λ of. set_same of r.pipes inode (Some (pipe_of [] [] [])) (ap (count_waiting_in of) (sym none))) balance) (λ is. balance)
+    (λ device. same_balance first r (record r { pipes = slice_set r.pipes inode (Some (pipe_of device [] [] [])) }) told (λ of. set_same of r.pipes inode (Some (pipe_of device [] [] [])) (ap (count_waiting_in of) (sym none))) balance) (λ is. balance)
   where
     none : row_at r.pipes inode ≡ None
-    none = none_fits kind.Pipe _ (row_at r.pipes inode) (h.contents.pipes inode ∙ ap (size_if kind.Pipe) (inode_is_new r.inodes inode h.room.some_inodes may.0).free)
+    none = none_fits calls_of _ (row_at r.pipes inode) (h.contents.pipes inode ∙ ap (in_inode calls_of) (inode_is_new r.inodes inode h.room.some_inodes may.0).free)
 balance-keeps first (Fills inode moment after came) r told may h balance = λ none.
     let before = balance none in
     record {

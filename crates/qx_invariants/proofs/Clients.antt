@@ -6,8 +6,8 @@ use Rattle.std.proofs.lemmas.Bool.{and_parts, cases_eq, cond_both, eq-eqb, eqb-t
 use Rattle.std.proofs.lemmas.Option.{same_Some}
 use Rattle.qx_types.specs.Configuration.{Configuration, name_bytes}
 use Rattle.qx_types.specs.Managers.{manager_number}
-use Rattle.qx_types.specs.declared.errno.Errno.{Errno}
-use Rattle.qx_types.specs.declared.errno.Errno.TheVariants.{EBADF, EINTR, EINVAL}
+use Rattle.qx_errno.specs.declared.Errno.{Errno}
+use Rattle.qx_errno.specs.declared.Errno.TheVariants.{EBADF, EINTR, EINVAL}
 use Rattle.qx_types.specs.declared.names.Coid.{Coid}
 use Rattle.qx_types.specs.declared.names.Manager.{Manager}
 use Rattle.qx_types.specs.declared.names.Thread.{Thread}

@@ -1,18 +1,19 @@
 -- What deeds do to a user's resources: a property that each change which may happen keeps, each deed and each cancelled call keep.
-use Rattle.std.proofs.Common.{◌≡◌, inl, inr, ℕ, zero, suc, ◌+◌, ◌≤◌, ◌==◌, List, [], ◌∷◌, ◌++◌, length, true, false, refl, sym, ap, ◌∙◌, subst, arith, ltb-true, ltb-false, Bool}
+use Rattle.std.proofs.Common.{◌≡◌, inl, inr, ℕ, zero, suc, ◌+◌, ◌≤◌, ◌==◌, List, [], ◌∷◌, ◌++◌, length, true, false, refl, sym, ap, ◌∙◌, subst, arith, ltb-true, ltb-false}
 use Rattle.std.specs.Prelude.{IfOk, ℤ, ◌&&◌, Option, Some, None, Result, Ok, Err, is_some, nat_le, nat_lt, not, option_map, position, slice_set}
 use Rattle.std.specs.FinMap.{get, insert, remove}
 use Rattle.std.specs.List.{AllByRecursion, count_by}
 use Rattle.std.proofs.lemmas.List.{append-nil, append_assoc}
 use Rattle.std.proofs.lemmas.Option.{same_Some}
 use Rattle.std.proofs.lemmas.Bool.{and_parts, cases_eq, cond_both, eq-eqb, leb-true}
-use Rattle.qx_types.specs.declared.errno.Errno.{Errno}
-use Rattle.qx_types.specs.declared.errno.Errno.TheVariants.{EACCES, EBADF, EBUSY, EEXIST, EFBIG, EINVAL, EISDIR, EMFILE, ENOENT, ENOSPC, ENOTEMPTY, EPERM}
+use Rattle.qx_errno.specs.declared.Errno.{Errno}
+use Rattle.qx_errno.specs.declared.Errno.TheVariants.{EACCES, EBADF, EBUSY, EEXIST, EFBIG, EINVAL, EISDIR, EMFILE, ENOENT, ENOSPC, ENOTEMPTY, EPERM}
+use Rattle.qx_devices.specs.Devices.{device_number}
 use Rattle.qx_types.specs.declared.fields.NotifyAction.{NotifyAction}
 use Rattle.qx_types.specs.declared.fields.Whence.{Whence}
 use Rattle.qx_types.specs.declared.flags.OFlags.{OFlags}
 use Rattle.qx_types.specs.declared.flags.TheConstants.OFlags.{CREAT, EXCL, TRUNC}
-use Rattle.qx_types.specs.declared.limits.TheConstants.Limits.{FILE, FILES, INODES, LAST_CONNECTION, PIPE}
+use Rattle.qx_types.specs.declared.limits.TheConstants.Limits.{FILE, FILES, INODES, LAST_CONNECTION}
 use Rattle.qx_types.specs.declared.names.Manager.{Manager}
 use Rattle.qx_types.specs.declared.names.Manager.TheVariants as managers
 use Rattle.qx_types.specs.declared.outcome.Outcome.TheVariants.{WrongState}
@@ -38,27 +39,26 @@ use Rattle.qx_machine.specs.Attributes.{top_inode}
 use Rattle.qx_machine.specs.Defaults.{MadeInode, allows, with_entries_changed as written_to, chmod_block, close_dup, close_ocb, dup_open, free_block, is_own, list_block, made_at, make_directory, open_spot, open_existing, open_missing, open_path, opened, own_block, pipe_in, stat_block, stat_path, unlink_path, unnamed, unopened, without_block, without_name, without_unused, writable}
 use Rattle.qx_machine.specs.Events.{Notified, disarmed, notified}
 use Rattle.qx_machine.specs.Files.{put, total_size}
-use Rattle.qx_machine.specs.Functions.{Deed, is_side, new_coid, new_dup, new_open, reply_alone, side_root}
+use Rattle.qx_machine.specs.Functions.{Deed, is_side, message_deed, new_coid, new_dup, new_open, reply_alone, side_root}
 use Rattle.qx_machine.specs.Inodes.{Inodes, Numbered, is_open, is_shared, block_number, dup_block, has, inode_number, may, new_attribute, new_block, new_inode, open_block, readers_of, reads, with_attribute, with_offset, writers_of, writes}
 use Rattle.qx_isolation.specs.Judgements.{found, need}
-use Rattle.qx_machine.specs.Managers.{close_all, manager_deed, or_unreplied, own_kind}
+use Rattle.qx_machine.specs.Managers.{close_all, manager_deed, or_unreplied, own_kind, pipe_connect, pipe_io}
 use Rattle.qx_machine.specs.Names.{Key, Spot, is_directory, is_empty, names_in, root_key, spot, under}
 use Rattle.qx_machine.specs.Notification.{conditions_at, event_of, notify_block}
 use Rattle.qx_machine.specs.PipeManager.{cancel_call, filled, read_pipe, released, seek_pipe, deed_of_pipe, write_pipe}
-use Rattle.qx_machine.specs.Pipes.{PipeAfter, Pipe, cancel, read, release, removed, write}
+use Rattle.qx_machine.specs.Pipes.{PipeAfter, Pipe, cancel, release}
 use Rattle.qx_machine.specs.RamManager.{emptied, read_file, seek_file, with_bytes, write_file, written_at}
 use Rattle.qx_machine.specs.Resources.{Resources, with_empty}
 use Rattle.qx_isolation.specs.Rows.{put_row, row_at}
 use Rattle.qx_machine.specs.Waiting.{Pipes, holds, is_call, is_gone, is_over, manner_of, offered, sides_of, waiting_call, wanted}
 use Rattle.qx_isolation.proofs.Places.{row_at-set_other}
-use Rattle.qx_invariants.specs.Changes.{AreKept, LeadsTo, ResourceChange, Closes, Comes, Fills, IsMoved, IsOwnInode, IsPipeSettled, MayHappen, MayPart, Moves, Notifies, OneLess, OneMore, Opens, Parting, ToOffset, Touches, Unlinks, WithClient, WithLast, Writes, moved, with_change, touched, without_link, with_named}
-use Rattle.qx_invariants.specs.Waits.{count_answers_to, is_astray, count_waiting_in, count_waiting_of}
+use Rattle.qx_invariants.specs.Changes.{AreKept, LeadsTo, ResourceChange, Closes, Comes, Fills, IsDone, IsMoved, IsOwnInode, MayHappen, MayPart, Moves, Notifies, OneLess, OneMore, Opens, Parting, ToOffset, Touches, Unlinks, WithClient, WithLast, Writes, moved, with_change, touched, without_link, with_named}
+use Rattle.qx_invariants.specs.Waits.{is_astray, count_waiting_in}
 use Rattle.qx_machine.proofs.Gives.{Gives, found-row, gives_by, gives_done, gives_error, gives_on, gives-value, need-true}
 use Rattle.qx_attr.proofs.CountLemmas.{within_table}
 use Rattle.qx_iofunc.proofs.PlaceLemmas.{put_at, set_at}
 use Rattle.qx_iofunc.proofs.OpenLemmas.{none_in}
-use Rattle.qx_pipe.proofs.CallLemmas.{cancel_settled, read_settled, release_settled, write_settled}
-use Rattle.qx_invariants.proofs.Calls.{cancel_once, cancel_short, no_one, put_short, read_once, read_short, release_none, release_once, release_short, rests, write_once, write_short}
+use Rattle.qx_invariants.proofs.Calls.{LeavesWell, cancel_well, no_one, put_short, read_well, release_none, release_well, write_well}
 use Rattle.qx_invariants.proofs.Events.{disarmed-kept, notified-kept}
 use Rattle.qx_invariants.proofs.Rows.{IsNew, filled-kind, with_row-some_at, inode_is_new, put_there, some-is, the-some, with_row-at, with_row-some}
 use Rattle.qx_invariants.proofs.Keys.{insert-at}
@@ -100,7 +100,9 @@ emptied-leads r flags inode moment at leads =
 -- a manager's own kind is one of its own
 own-is : (own : Kind) → is_own own own ≡ true
 own-is File = refl
-own-is _ = refl
+own-is Directory = refl
+own-is kind.Pipe = refl
+own-is (kind.Device device) = eq-eqb (device_number device) (device_number device) refl
 
 shared-block : (row : Option Ocb) → is_shared row ≡ true → (block : Ocb) × (row ≡ Some block)
 shared-block None is = absurd (cc)
@@ -172,12 +174,18 @@ module _ (r : Resources) (own : Kind) where
 
 pipe_in-there : (own : Kind) (r : Resources) (inode : ℕ) (pipe : Pipe WaitingCall) → pipe_in own r inode ≡ Some pipe → row_at r.pipes inode ≡ Some pipe
 pipe_in-there kind.Pipe r inode pipe is = is
+pipe_in-there (kind.Device device) r inode pipe is = is
 pipe_in-there _ r inode pipe is = absurd (cc)
 
 -- the pipe as it is afterwards
 pipe_in-set : (own : Kind) (r s : Resources) (inode : ℕ) (pipe after : Pipe WaitingCall) → pipe_in own r inode ≡ Some pipe → s.pipes ≡ slice_set r.pipes inode (Some after) → pipe_in own s inode ≡ Some after
 pipe_in-set kind.Pipe r s inode pipe after is are = ap (λ (pipes : Pipes). row_at pipes inode) are ∙ set_at r.pipes inode after (within_table r.pipes inode pipe is)
+pipe_in-set (kind.Device device) r s inode pipe after is are = ap (λ (pipes : Pipes). row_at pipes inode) are ∙ set_at r.pipes inode after (within_table r.pipes inode pipe is)
 pipe_in-set _ r s inode pipe after is are = absurd (cc)
+
+-- what a call leaves was done to the pipe, or to the device
+done-well : (r : Resources) (inode : ℕ) (pipe : Pipe WaitingCall) (came : List WaitingCall) (after : PipeAfter WaitingCall) → row_at r.pipes inode ≡ Some pipe → count_by (is_astray r.inodes.blocks inode) came ≡ 0 → LeavesWell pipe came after → IsDone r inode after came
+done-well r inode pipe came after there over well = record { pipe = pipe; there = there; over = over; once = well.once; settled = well.settled; device = well.rules.device; short = well.rules.short }
 
 module _ (K : Resources → Told → Type 0) (keeps : (change : ResourceChange) (r : Resources) (told : Told) → MayHappen change r → K r told → K (with_change change r) (told_by change told)) where
   module _ (answers : List (WaitingCall × Answer)) (seen : List ResourceChange) where
@@ -223,14 +231,7 @@ module _ (K : Resources → Told → Type 0) (keeps : (change : ResourceChange) 
             ap (count_waiting_in (is_over number)) (pipe_in-set own r (deed_of_pipe r block.inode moment after).state block.inode pipe after.pipe its refl) ∙ release_none wanted offered is_gone (is_over number) sides pipe,
             may,
           )
-          (keeps (Fills block.inode moment after []) r (record (telling answers []) { seen = seen }) (record {
-            pipe = pipe;
-            there = pipe_in-there own r block.inode pipe its;
-            over = refl;
-            once = release_once wanted offered is_gone (is_over number) sides pipe;
-            settled = rests wanted offered _ (release_settled wanted offered is_gone (is_over number) sides pipe);
-            short = λ short. release_short wanted offered is_gone pipe short (is_over number) sides;
-          }) h)
+          (keeps (Fills block.inode moment after []) r (record (telling answers []) { seen = seen }) (done-well r block.inode pipe [] after (pipe_in-there own r block.inode pipe its) refl (release_well pipe (is_over number) sides)) h)
 
       -- the event of the block goes with it
       pub close_ocb-gives : (own : Kind) (number moment : ℕ) (parting : Parting) → ((block : Ocb) → row_at r.inodes.blocks number ≡ Some block → MayPart parting block) → Gives (Closed r own number parting) (close_ocb own r number moment)
@@ -354,14 +355,7 @@ module _ (K : Resources → Told → Type 0) (keeps : (change : ResourceChange) 
   cancel-gives r h process thread call moment =
       gives_on _ (found (position (holds (is_call process thread call)) r.pipes) WrongState) _ (λ inode at.
       gives_on _ (found (row_at r.pipes inode) WrongState) _ (λ pipe here.
-      gives_done _ _ (keeps (Fills inode moment (cancel wanted offered is_gone (is_call process thread call) pipe) []) r nothing (record {
-        pipe = pipe;
-        there = found-row _ _ pipe here;
-        over = refl;
-        once = cancel_once wanted offered is_gone (is_call process thread call) pipe;
-        settled = rests wanted offered _ (cancel_settled wanted offered is_gone (is_call process thread call) pipe);
-        short = λ short. cancel_short wanted offered is_gone pipe short (is_call process thread call);
-      }) h)))
+      gives_done _ _ (keeps (Fills inode moment (cancel wanted offered is_gone (is_call process thread call) pipe) []) r nothing (done-well r inode pipe [] _ (found-row _ _ pipe here) refl (cancel_well pipe (is_call process thread call))) h)))
 
 -- ---- each deed
 
@@ -511,13 +505,13 @@ module _ (K : Resources → Told → Type 0) (keeps : (change : ResourceChange) 
         let is_its : is_open (λ flags. true) block.inode (row_at r.inodes.blocks call.block) ≡ true = ap (λ n. is_open (λ flags. true) block.inode (row_at r.inodes.blocks n)) is ∙ (ap (is_open (λ flags. true) block.inode) there ∙ ap (λ b. b && true) (eq-eqb block.inode block.inode refl)) in
         no_one (not (is_open (λ flags. true) block.inode (row_at r.inodes.blocks call.block))) (ap not is_its)
 
-    -- a call comes to a pipe, and leaves it as each call may
+    -- a call comes to a pipe, or to a device, and leaves it as each call may
     came-keeps : (over : Opened) (count : ℕ) (bytes : List ℕ) → context.opened ≡ Ok over → (block : Ocb) → row_at r.inodes.blocks over.number ≡ Some block → (pipe : Pipe WaitingCall) → row_at r.pipes block.inode ≡ Some pipe → (after : PipeAfter WaitingCall)
-        → ((which : WaitingCall → Bool) → count_answers_to which after.answers + count_waiting_of which after.pipe ≡ count_waiting_of which (removed is_gone pipe) + count_by which (waiting_call over count bytes ∷ [])) → IsPipeSettled after.pipe → (length pipe.bytes ≤ PIPE → length after.pipe.bytes ≤ PIPE) → Kept (deed_of_pipe r block.inode over.moment after)
-    came-keeps over count bytes was block opened pipe here after once settled short = record {
+        → LeavesWell pipe (waiting_call over count bytes ∷ []) after → Kept (deed_of_pipe r block.inode over.moment after)
+    came-keeps over count bytes was block opened pipe here after well = record {
       came = waiting_call over count bytes ∷ [];
       seen = [];
-      kept = keeps (Fills block.inode over.moment after (waiting_call over count bytes ∷ [])) r nothing (record { pipe = pipe; there = here; over = own_over over.number block (waiting_call over count bytes) opened refl; once = once; settled = settled; short = short }) h;
+      kept = keeps (Fills block.inode over.moment after (waiting_call over count bytes ∷ [])) r nothing (done-well r block.inode pipe (waiting_call over count bytes ∷ []) after here (own_over over.number block (waiting_call over count bytes) opened refl) well) h;
       own = record { call = waiting_call over count bytes; alone = refl; here = refl; opened = over; was = was; process = refl; thread = refl; over = refl };
       effect = refl;
     }
@@ -527,20 +521,14 @@ module _ (K : Resources → Told → Type 0) (keeps : (change : ResourceChange) 
         gives_on _ (found (row_at r.inodes.blocks over.number) EBADF) _ (λ block opened.
         gives_on _ (need (reads block.flags) EBADF) _ (λ may allowed.
         gives_on _ (found (row_at r.pipes block.inode) EISDIR) _ (λ pipe here.
-        let manner = manner_of (writers_of r.inodes block.inode) block over.is_asked in
-        let call = waiting_call over count [] in
-        gives_done _ _ (came-keeps over count [] was block (found-row _ _ block opened) pipe (found-row _ _ pipe here) (read wanted offered is_gone manner call pipe)
-        (read_once wanted offered is_gone manner call pipe) (rests wanted offered _ (read_settled wanted offered is_gone manner call pipe)) (λ short. read_short wanted offered is_gone pipe short manner call)))))
+        gives_done _ _ (came-keeps over count [] was block (found-row _ _ block opened) pipe (found-row _ _ pipe here) _ (read_well pipe (manner_of (writers_of r.inodes block.inode) block over.is_asked) (waiting_call over count []))))))
 
     write-gives : (over : Opened) (bytes : List ℕ) → context.opened ≡ Ok over → Gives Kept (write_pipe r over bytes)
     write-gives over bytes was =
         gives_on _ (found (row_at r.inodes.blocks over.number) EBADF) _ (λ block opened.
         gives_on _ (need (writes block.flags) EBADF) _ (λ may allowed.
         gives_on _ (found (row_at r.pipes block.inode) EBADF) _ (λ pipe here.
-        let manner = manner_of (readers_of r.inodes block.inode) block over.is_asked in
-        let call = waiting_call over 0 bytes in
-        gives_done _ _ (came-keeps over 0 bytes was block (found-row _ _ block opened) pipe (found-row _ _ pipe here) (write wanted offered is_gone manner call pipe)
-        (write_once wanted offered is_gone manner call pipe) (rests wanted offered _ (write_settled wanted offered is_gone manner call pipe)) (λ short. write_short wanted offered is_gone pipe short manner call)))))
+        gives_done _ _ (came-keeps over 0 bytes was block (found-row _ _ block opened) pipe (found-row _ _ pipe here) _ (write_well pipe (manner_of (readers_of r.inodes block.inode) block over.is_asked) (waiting_call over 0 bytes))))))
 
     -- ---- a close
 
@@ -651,21 +639,22 @@ module _ (K : Resources → Told → Type 0) (keeps : (change : ResourceChange) 
     ram-gives mine (msg.Notify action conditions code value) names = gives_on _ context.opened _ (λ over is. notify-gives over action _)
     ram-gives mine (msg.Chmod mode) names = gives_on _ context.opened _ (λ over is. chmod-gives over mode)
 
-    pipe-gives : own_kind context.target.manager ≡ kind.Pipe → (message : Message) → NamesComponents message → Gives Kept (manager_deed managers.Pipe r context message)
-    pipe-gives mine (msg.Open flags mode rest) names = gives_on _ (new_open context) _ (λ over is. open-gives over is h kind.Pipe mine rest _ names)
-    pipe-gives mine (msg.Stat rest) names = gives_on _ (side_root context.target) _ (λ root is. stat_path-gives root rest context.moment)
-    pipe-gives mine (msg.Unlink rest) names = gives_on _ (side_root context.target) _ (λ root is. unlink-gives kind.Pipe root rest context.moment names)
-    pipe-gives mine (msg.Mknod mode rest) names = gives_error _ _
-    pipe-gives mine (msg.Read count) names = gives_on _ context.opened _ (λ over is. read-gives over count is)
-    pipe-gives mine (msg.Write bytes) names = gives_on _ context.opened _ (λ over is. write-gives over bytes is)
-    pipe-gives mine msg.Close names = gives_on _ context.opened _ (λ over is. close_dup-gives kind.Pipe over is)
-    pipe-gives mine (msg.Dup old) names = gives_on _ (new_dup context) _ (λ dup is. dup-gives dup is)
-    pipe-gives mine (msg.Lseek whence offset) names = gives_on _ context.opened _ (λ over is. seek_pipe-gives over whence offset)
-    pipe-gives mine msg.Fstat names = gives_on _ context.opened _ (λ over is. stat_block-gives over)
-    pipe-gives mine (msg.List after) names = gives_on _ context.opened _ (λ over is. list-gives over after)
-    pipe-gives mine (msg.Notify action conditions code value) names = gives_on _ context.opened _ (λ over is. notify-gives over action _)
-    pipe-gives mine (msg.Chmod mode) names = gives_on _ context.opened _ (λ over is. chmod-gives over mode)
+    pipe-gives : (own : Kind) → own_kind context.target.manager ≡ own → (message : Message) → NamesComponents message → Gives Kept (message_deed (pipe_connect own) (pipe_io own) r context message)
+    pipe-gives own mine (msg.Open flags mode rest) names = gives_on _ (new_open context) _ (λ over is. open-gives over is h own mine rest _ names)
+    pipe-gives own mine (msg.Stat rest) names = gives_on _ (side_root context.target) _ (λ root is. stat_path-gives root rest context.moment)
+    pipe-gives own mine (msg.Unlink rest) names = gives_on _ (side_root context.target) _ (λ root is. unlink-gives own root rest context.moment names)
+    pipe-gives own mine (msg.Mknod mode rest) names = gives_error _ _
+    pipe-gives own mine (msg.Read count) names = gives_on _ context.opened _ (λ over is. read-gives over count is)
+    pipe-gives own mine (msg.Write bytes) names = gives_on _ context.opened _ (λ over is. write-gives over bytes is)
+    pipe-gives own mine msg.Close names = gives_on _ context.opened _ (λ over is. close_dup-gives own over is)
+    pipe-gives own mine (msg.Dup old) names = gives_on _ (new_dup context) _ (λ dup is. dup-gives dup is)
+    pipe-gives own mine (msg.Lseek whence offset) names = gives_on _ context.opened _ (λ over is. seek_pipe-gives over whence offset)
+    pipe-gives own mine msg.Fstat names = gives_on _ context.opened _ (λ over is. stat_block-gives over)
+    pipe-gives own mine (msg.List after) names = gives_on _ context.opened _ (λ over is. list-gives over after)
+    pipe-gives own mine (msg.Notify action conditions code value) names = gives_on _ context.opened _ (λ over is. notify-gives over action _)
+    pipe-gives own mine (msg.Chmod mode) names = gives_on _ context.opened _ (λ over is. chmod-gives over mode)
 
     pub manager-gives : (manager : Manager) → context.target.manager ≡ manager → (message : Message) → NamesComponents message → Gives Kept (manager_deed manager r context message)
     manager-gives managers.Ram here message names = ram-gives (ap own_kind here) message names
-    manager-gives managers.Pipe here message names = pipe-gives (ap own_kind here) message names
+    manager-gives managers.Pipe here message names = pipe-gives kind.Pipe (ap own_kind here) message names
+    manager-gives (managers.Device device) here message names = pipe-gives (kind.Device device) (ap own_kind here) message names

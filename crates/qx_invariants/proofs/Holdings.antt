@@ -85,7 +85,7 @@ came_by _ = []
 waiting_few : (change : ResourceChange) (r : Resources) → IsOfDeed change → MayHappen change r → (which : WaitingCall → Bool) → count_waiting which (with_change change r).pipes ≤ count_waiting which r.pipes + count_by which (came_by change)
 waiting_few (Comes inode directory name kind mode moment) r of may which =
     empty_cases (λ (s : Resources). count_waiting which s.pipes ≤ count_waiting which r.pipes + 0) kind inode (with_named inode (under directory name) (new_attribute kind mode r.user moment) r) (λ is. omega arith)
-    (λ is. let few = set_few which r.pipes inode (Some (pipe_of [] [] [])) in omega (arith, few)) (λ is. omega arith)
+    (λ device. let few = set_few which r.pipes inode (Some (pipe_of device [] [] [])) in omega (arith, few)) (λ is. omega arith)
 waiting_few (Fills inode moment after came) r of may which =
     let set = set_other which r.pipes inode may.pipe after.pipe may.there in
     let once = may.once which in

@@ -5,7 +5,7 @@ use Rattle.std.proofs.lemmas.Bool.{cond_both}
 use Rattle.std.proofs.lemmas.List.Sums.{sum_by-append}
 use Rattle.std.proofs.lemmas.Option.{same_Some}
 use Rattle.qx_types.specs.Configuration.{Configuration}
-use Rattle.qx_types.specs.declared.errno.Errno.TheVariants.{EINTR, EINVAL}
+use Rattle.qx_errno.specs.declared.Errno.TheVariants.{EINTR, EINVAL}
 use Rattle.qx_types.specs.declared.limits.TheConstants.Limits.{FIRST_CONNECTION, INODES}
 use Rattle.qx_types.specs.declared.names.Thread.{Thread}
 use Rattle.qx_types.specs.declared.outcome.Answer.TheVariants as answer

@@ -5,8 +5,8 @@ use Rattle.std.specs.List.{count_by}
 use Rattle.std.proofs.lemmas.Bool.{eq-eqb}
 use Rattle.std.proofs.lemmas.List.Sums.{sum_by-append}
 use Rattle.std.proofs.lemmas.Option.{same_Some}
-use Rattle.qx_types.specs.declared.errno.Errno.{Errno}
-use Rattle.qx_types.specs.declared.errno.Errno.TheVariants.{EINVAL}
+use Rattle.qx_errno.specs.declared.Errno.{Errno}
+use Rattle.qx_errno.specs.declared.Errno.TheVariants.{EINVAL}
 use Rattle.qx_types.specs.declared.names.Coid.{Coid}
 use Rattle.qx_types.specs.declared.names.Manager.{Manager}
 use Rattle.qx_types.specs.declared.names.Manager.TheVariants as managers
@@ -86,6 +86,7 @@ closes_own r context (Known message) = by context.target.manager message
     by : (manager : Manager) (message : Message) → Gives (λ (deed : Deed Resources). ClosesOwn (Known message) deed.reply) (manager_deed manager r context message)
     by managers.Ram (msg.Dup old) = dup_opens r context old
     by managers.Pipe (msg.Dup old) = dup_opens r context old
+    by (managers.Device device) (msg.Dup old) = dup_opens r context old
     by manager _ = gives_every _ _ (λ deed its coid same closes. refl)
 closes_own r context Unknown = gives_every _ _ (λ deed its coid same closes. refl)
 closes_own r context Malformed = gives_every _ _ (λ deed its coid same closes. refl)

@@ -4,8 +4,9 @@ use Rattle.std.specs.Prelude.{List, [], ◌∷◌, Option, Some, None, Ok, Err, 
 use Rattle.std.specs.List.{list_any}
 use Rattle.std.proofs.lemmas.Bool.{cases_eq, cond_both, leb-true}
 use Rattle.std.proofs.lemmas.Option.{same_Some}
-use Rattle.qx_types.specs.declared.errno.Errno.{Errno}
-use Rattle.qx_types.specs.declared.errno.Errno.TheVariants.{ENFILE, ENOSPC}
+use Rattle.qx_errno.specs.declared.Errno.{Errno}
+use Rattle.qx_errno.specs.declared.Errno.TheVariants.{ENFILE, ENOSPC}
+use Rattle.qx_devices.specs.declared.Device.{Device}
 use Rattle.qx_types.specs.declared.limits.TheConstants.Limits.{BLOCKS, INODES}
 use Rattle.qx_machine.specs.declared.rows.Kind.{Kind}
 use Rattle.qx_machine.specs.declared.rows.Kind.TheVariants as kind
@@ -15,7 +16,7 @@ use Rattle.qx_machine.specs.declared.rows.WaitingCall.{WaitingCall}
 use Rattle.qx_machine.specs.Clients.{with_abandoned}
 use Rattle.qx_machine.specs.Defaults.{without_unused}
 use Rattle.qx_machine.specs.Inodes.{Inodes, block_number, blocks_of, close_block, inode_number, is_open, is_unused}
-use Rattle.qx_machine.specs.Names.{is_same_kind}
+use Rattle.qx_machine.specs.Names.{has_calls}
 use Rattle.qx_machine.specs.PipeManager.{filled}
 use Rattle.qx_machine.specs.Pipes.{PipeAfter, pipe_of}
 use Rattle.qx_machine.specs.Resources.{Resources, resized, with_empty, without_content}
@@ -150,16 +151,16 @@ module _ (inodes : Inodes) where
 
 -- ---- what is left
 
--- what is the same of an attribute of whatever size and times stays, once something was done to its pipe
+-- what is the same of an attribute of whatever size and times stays, once something was done to its pipe or device
 pub filled-same : {A : Type 0} (moment : ℕ) (after : PipeAfter WaitingCall) (a : Attribute) (part : Attribute → A) → part (resized (length after.pipe.bytes) moment a) ≡ part a → part (record a { size = length after.pipe.bytes }) ≡ part a → part (filled moment after a) ≡ part a
 filled-same moment after a part written other =
-    cond_both (not (is_same_kind kind.Pipe a.kind)) _ _ (λ now. part now ≡ part a) (λ is. refl)
+    cond_both (not (has_calls a.kind)) _ _ (λ now. part now ≡ part a) (λ is. refl)
     (λ is. cond_both (list_any (λ answer. is_written (offered answer.0) answer.1) after.answers) _ _ (λ now. part now ≡ part a) (λ is. written) (λ is. other))
 
 pub filled-kind : (moment : ℕ) (after : PipeAfter WaitingCall) (a : Attribute) → (filled moment after a).kind ≡ a.kind
 filled-kind moment after a = filled-same moment after a (λ (b : Attribute). b.kind) refl refl
 
--- each pipe changes as a process ends
+-- each pipe and device changes as a process ends
 pub abandoned-at : (process : ℕ) (pipes : Pipes) (inode : ℕ) → row_at (map (option_map (with_abandoned process)) pipes) inode ≡ option_map (with_abandoned process) (row_at pipes inode)
 abandoned-at process pipes inode = at-map (option_map (with_abandoned process)) pipes inode None None refl
 
@@ -177,12 +178,14 @@ module _ (P : Resources → Type 0) where
       by true e = gone e
       by false e = stays e
 
-  pub content_cases : (own : Kind) (inode : ℕ) (r : Resources) → (own ≡ kind.File → P (record r { files = slice_set r.files inode None })) → (own ≡ kind.Pipe → P (record r { pipes = slice_set r.pipes inode None })) → (own ≡ kind.Directory → P r) → P (without_content own inode r)
+  pub content_cases : (own : Kind) (inode : ℕ) (r : Resources) → (own ≡ kind.File → P (record r { files = slice_set r.files inode None })) → (has_calls own ≡ true → P (record r { pipes = slice_set r.pipes inode None })) → (own ≡ kind.Directory → P r) → P (without_content own inode r)
   content_cases kind.File inode r file pipe directory = file refl
   content_cases kind.Pipe inode r file pipe directory = pipe refl
+  content_cases (kind.Device device) inode r file pipe directory = pipe refl
   content_cases kind.Directory inode r file pipe directory = directory refl
 
-  pub empty_cases : (which : Kind) (inode : ℕ) (r : Resources) → (which ≡ kind.File → P (record r { files = slice_set r.files inode (Some []) })) → (which ≡ kind.Pipe → P (record r { pipes = slice_set r.pipes inode (Some (pipe_of [] [] [])) })) → (which ≡ kind.Directory → P r) → P (with_empty which inode r)
+  pub empty_cases : (which : Kind) (inode : ℕ) (r : Resources) → (which ≡ kind.File → P (record r { files = slice_set r.files inode (Some []) })) → ((device : Option Device) → P (record r { pipes = slice_set r.pipes inode (Some (pipe_of device [] [] [])) })) → (which ≡ kind.Directory → P r) → P (with_empty which inode r)
   empty_cases kind.File inode r file pipe directory = file refl
-  empty_cases kind.Pipe inode r file pipe directory = pipe refl
+  empty_cases kind.Pipe inode r file pipe directory = pipe None
+  empty_cases (kind.Device device) inode r file pipe directory = pipe (Some device)
   empty_cases kind.Directory inode r file pipe directory = directory refl

@@ -22,7 +22,7 @@ use Rattle.qx_paths.specs.Prefixes.{MountPoint}
 use Rattle.std.proofs.lemmas.List.Elements.{All-cons, All-nil}
 use Rattle.qx_iofunc.proofs.StoreLemmas.{row_at-none}
 use Rattle.qx_invariants.specs.Changes.{IsDirectoryAt, ResourceChange, MayHappen, with_change}
-use Rattle.qx_invariants.specs.Holds.{HasContents, HasLimits, HasMade, HasMounts, HasNames, HasOpenWaiters, HasRoom, HasSettledPipes, HasTree, HasUses, IsOwnedBy, size_if}
+use Rattle.qx_invariants.specs.Holds.{HasContents, HasLimits, HasMade, HasMounts, HasNames, HasOpenWaiters, HasRoom, HasSettledPipes, HasTree, HasUses, IsOwnedBy, calls_of, file_of, in_inode}
 use Rattle.qx_invariants.proofs.Contents.{contents-keep, settled-keep, limits-keep}
 use Rattle.qx_invariants.proofs.Events.{HasEvents, events-keep}
 use Rattle.qx_invariants.proofs.Keys.{insert-at, insert-cases, not_root}
@@ -63,15 +63,15 @@ module _ (user : ℕ) (name : List ℕ) where
     pipes = length-replicate {A = Option (Pipe WaitingCall)} (INODES + 1) None;
   }
 
-  no_sizes : (which : Kind) → size_if which (Some (root_attribute user)) ≡ None → (inode : ℕ) → size_if which (row_at start.inodes.attributes inode) ≡ None
-  no_sizes which none zero = refl
-  no_sizes which none (suc zero) = none
-  no_sizes which none (suc (suc inode)) = refl
+  nothing_in : {A : Type 0} (content : Kind → ℕ → Option A) → content kind.Directory 0 ≡ None → (inode : ℕ) → in_inode content (row_at start.inodes.attributes inode) ≡ None
+  nothing_in content none zero = refl
+  nothing_in content none (suc zero) = none
+  nothing_in content none (suc (suc inode)) = refl
 
   boot_contents : HasContents start
   boot_contents = record {
-    files = λ inode. ap (option_map _) (row_at-none (INODES + 1) inode) ∙ sym (no_sizes kind.File refl inode);
-    pipes = λ inode. ap (option_map _) (row_at-none (INODES + 1) inode) ∙ sym (no_sizes kind.Pipe refl inode);
+    files = λ inode. ap (option_map _) (row_at-none (INODES + 1) inode) ∙ sym (nothing_in file_of refl inode);
+    pipes = λ inode. ap (option_map _) (row_at-none (INODES + 1) inode) ∙ sym (nothing_in calls_of refl inode);
   }
 
   boot_settled : HasSettledPipes start

@@ -1,7 +1,9 @@
 -- All that can happen to a user's resources: nothing but these changes, one after another.
-use Rattle.std.specs.Prelude.{◌+◌, ◌-◌, ◌≡◌, ◌≤◌, ◌⊎◌, ◌++◌, length, map, option_map, slice_set, ℕ, Bool, true, List, [], ◌∷◌, Some, None, Ok, is_some}
+use Rattle.std.specs.Prelude.{◌+◌, ◌-◌, ◌≡◌, ◌≤◌, ◌⊎◌, ◌++◌, length, map, option_map, slice_set, ℕ, Bool, true, List, [], ◌∷◌, Option, Some, None, Ok, is_some}
 use Rattle.std.specs.List.{count_by}
 use Rattle.std.specs.FinMap.{get, insert, remove}
+use Rattle.qx_device.specs.declared.TheConstants.{STATE}
+use Rattle.qx_devices.specs.declared.Device.{Device}
 use Rattle.qx_types.specs.declared.limits.TheConstants.Limits.{EVENTS, FILE, FILES, LAST_CONNECTION, PIPE}
 use Rattle.qx_machine.specs.Files.{total_size}
 use Rattle.qx_wire.specs.Rests.{is_component}
@@ -54,7 +56,7 @@ pub data ResourceChange : Type 0 where
   Moves : (number : ℕ) (move : Move) → ResourceChange
   -- a file has other bytes
   Writes : (inode moment : ℕ) (bytes : List ℕ) → ResourceChange
-  -- something is done to a pipe, to which calls came
+  -- something is done to a pipe, or to a device, to which calls came
   Fills : (inode moment : ℕ) (after : PipeAfter WaitingCall) (came : List WaitingCall) → ResourceChange
   -- a name goes, and what it named, unless that is open
   Unlinks : (own : Kind) (directory : Key) (name : List ℕ) (inode mtime ctime : ℕ) → ResourceChange
@@ -134,9 +136,18 @@ pub record IsOwnInode (own : Kind) (r : Resources) (inode : ℕ) : Type 0 where
   pub there : row_at r.inodes.attributes inode ≡ Some attribute
   pub owned : is_own own attribute.kind ≡ true
 
--- nobody waits in a pipe who could be served: to settle it changes nothing and answers nobody
+-- nobody waits in a pipe, or in a device, who could be served: to settle it changes nothing and answers nobody
 abbrev pub IsPipeSettled : Pipe WaitingCall → Type 0
 IsPipeSettled pipe = settle wanted offered pipe ≡ nobody_answered pipe
+
+-- as many bytes may stand in a pipe, and in a device
+abbrev pub most_bytes : Option Device → ℕ
+most_bytes None = PIPE
+most_bytes (Some device) = STATE
+
+-- and no more do
+abbrev pub IsShort : {W : Type 0} → Pipe W → Type 0
+IsShort pipe = length pipe.bytes ≤ most_bytes pipe.device
 
 -- this is an open control block once it stands at another offset, or once more or fewer connections have it: what it had open for whom, it has
 pub record IsMoved (before after : Ocb) : Type 0 where
@@ -157,7 +168,7 @@ pub record IsRewritten (r : Resources) (inode : ℕ) (bytes : List ℕ) : Type 0
   -- no more than before, or all files together have no more than they may
   pub files : (length bytes ≤ length was) ⊎ (total_size (slice_set r.files inode (Some bytes)) ≤ FILES)
 
--- something was done to the pipe of an inode, to which these calls came
+-- something was done to the pipe of an inode, or to its device, to which these calls came
 pub record IsDone (r : Resources) (inode : ℕ) (after : PipeAfter WaitingCall) (came : List WaitingCall) : Type 0 where
   pub pipe : Pipe WaitingCall
   pub there : row_at r.pipes inode ≡ Some pipe
@@ -167,8 +178,10 @@ pub record IsDone (r : Resources) (inode : ℕ) (after : PipeAfter WaitingCall) 
   pub once : (which : WaitingCall → Bool) → count_answers_to which after.answers + count_waiting_of which after.pipe ≡ count_waiting_of which (removed is_gone pipe) + count_by which came
   -- nobody waits who could be served
   pub settled : IsPipeSettled after.pipe
+  -- it is a pipe still, or that device
+  pub device : after.pipe.device ≡ pipe.device
   -- no more bytes stand than may
-  pub short : length pipe.bytes ≤ PIPE → length after.pipe.bytes ≤ PIPE
+  pub short : IsShort pipe → IsShort after.pipe
 
 -- these are a user's events once some came or went
 pub record AreKept (before events : Events) : Type 0 where

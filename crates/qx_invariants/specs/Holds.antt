@@ -1,10 +1,11 @@
--- How a user's inodes, names, files and pipes stand together.
+-- How a user's inodes, names, files, pipes and devices stand together.
 use Rattle.std.specs.Prelude.{All, ◌≡◌, ◌≢◌, ◌⊎◌, ℕ, ◌+◌, ◌-◌, ◌≤◌, ◌<◌, ◌==◌, ◌&&◌, Bool, false, true, List, Option, Some, None, filter, is_some, length, map, option_map, slice_get, if◌then◌else◌}
 use Rattle.std.specs.FinMap.{get}
 use Rattle.std.specs.List.{count_by}
 use Rattle.qx_paths.specs.Prefixes.{MountPoint}
+use Rattle.qx_devices.specs.declared.Device.{Device}
 use Rattle.qx_types.specs.Configuration.{Configuration}
-use Rattle.qx_types.specs.declared.limits.TheConstants.Limits.{BLOCKS, FILE, FILES, FIRST_CONNECTION, INODES, LAST_CONNECTION, PIPE}
+use Rattle.qx_types.specs.declared.limits.TheConstants.Limits.{BLOCKS, FILE, FILES, FIRST_CONNECTION, INODES, LAST_CONNECTION}
 use Rattle.qx_types.specs.declared.names.Manager.{Manager}
 use Rattle.qx_types.specs.declared.step.Step.{Step}
 use Rattle.qx_wire.specs.Rests.{is_component}
@@ -24,7 +25,7 @@ use Rattle.qx_machine.specs.Files.{total_size}
 use Rattle.qx_machine.specs.Inodes.{is_unused}
 use Rattle.qx_machine.specs.Listings.{HasAtMostOnePath}
 use Rattle.qx_machine.specs.Managers.{own_kind}
-use Rattle.qx_machine.specs.Names.{Key, Names, is_same_kind, root_key, under}
+use Rattle.qx_machine.specs.Names.{Key, Names, root_key, under}
 use Rattle.qx_machine.specs.Parts.{Part, thread_at}
 use Rattle.qx_machine.specs.Pipes.{Pipe}
 use Rattle.qx_machine.specs.Processes.{Process, has_ended, servers_at}
@@ -34,7 +35,7 @@ use Rattle.qx_machine.specs.Runs.{run}
 use Rattle.qx_machine.specs.Servers.{in_use}
 use Rattle.qx_machine.specs.Waiting.{is_of_process}
 use Rattle.qx_procs.specs.Calls.{has_ended_in}
-use Rattle.qx_invariants.specs.Changes.{IsDirectoryAt, IsPipeSettled}
+use Rattle.qx_invariants.specs.Changes.{IsDirectoryAt, IsPipeSettled, IsShort}
 use Rattle.qx_invariants.specs.Waits.{count_waiting, count_waiting_in, is_astray, is_foreign, is_of, though_gone, unless_gone, waits}
 
 -- this holds of each user's part in each world that a run reaches
@@ -54,7 +55,7 @@ pub record HasRoom (r : Resources) : Type 0 where
   -- the tables begin with the place 0
   pub some_inodes : 0 < length r.inodes.attributes
   pub some_blocks : 0 < length r.inodes.blocks
-  -- there is a place for the bytes and for the pipe of each inode
+  -- there is a place for the bytes of each inode, and for its pipe or device
   pub files : length r.files ≡ INODES + 1
   pub pipes : length r.pipes ≡ INODES + 1
 
@@ -84,28 +85,39 @@ pub record IsOwnedBy (owner : ℕ) (r : Resources) : Type 0 where
 
 -- ---- contents
 
--- the size of an inode of this kind; no other has one
-abbrev pub size_if : Kind → Option Attribute → Option ℕ
-size_if which None = None
-size_if which (Some attribute) = if is_same_kind which attribute.kind then Some attribute.size else None
+-- how many bytes a file of this kind and size has; nothing else has any
+abbrev pub file_of : Kind → ℕ → Option ℕ
+file_of kind.File size = Some size
+file_of _ size = None
+
+-- by which device's rules calls wait in what is of this kind and size, or by a pipe's, and how many bytes stand there; nowhere else does any call wait
+abbrev pub calls_of : Kind → ℕ → Option (Option Device × ℕ)
+calls_of kind.Pipe size = Some (None, size)
+calls_of (kind.Device device) size = Some (Some device, size)
+calls_of _ size = None
+
+-- what an inode's kind and size tell of what is in it; nothing, where no inode is
+abbrev pub in_inode : {A : Type 0} → (Kind → ℕ → Option A) → Option Attribute → Option A
+in_inode content None = None
+in_inode content (Some attribute) = content attribute.kind attribute.size
 
 pub record HasContents (r : Resources) : Type 0 where
   -- a file has its bytes, as many as its size says; what is no file, and where no inode is, has none
-  pub files : (inode : ℕ) → option_map (λ bytes. length bytes) (row_at r.files inode) ≡ size_if kind.File (row_at r.inodes.attributes inode)
-  -- so has a pipe
-  pub pipes : (inode : ℕ) → option_map (λ (pipe : Pipe WaitingCall). length pipe.bytes) (row_at r.pipes inode) ≡ size_if kind.Pipe (row_at r.inodes.attributes inode)
+  pub files : (inode : ℕ) → option_map (λ bytes. length bytes) (row_at r.files inode) ≡ in_inode file_of (row_at r.inodes.attributes inode)
+  -- so has a pipe, and so has a device, each by its own rules
+  pub pipes : (inode : ℕ) → option_map (λ (pipe : Pipe WaitingCall). (pipe.device, length pipe.bytes)) (row_at r.pipes inode) ≡ in_inode calls_of (row_at r.inodes.attributes inode)
 
 pub record HasLimits (r : Resources) : Type 0 where
   -- no file has more bytes than a file may have
   pub file : (inode : ℕ) (bytes : List ℕ) → row_at r.files inode ≡ Some bytes → length bytes ≤ FILE
   -- nor have all files together
   pub files : total_size r.files ≤ FILES
-  -- nor do more stand in a pipe than may
-  pub pipe : (inode : ℕ) (pipe : Pipe WaitingCall) → row_at r.pipes inode ≡ Some pipe → length pipe.bytes ≤ PIPE
+  -- nor do more stand in a pipe or a device than may
+  pub pipe : (inode : ℕ) (pipe : Pipe WaitingCall) → row_at r.pipes inode ≡ Some pipe → IsShort pipe
 
--- ---- pipes
+-- ---- pipes and devices
 
--- nobody waits in any pipe who could be served
+-- nobody waits in any of them who could be served
 pub record HasSettledPipes (r : Resources) : Type 0 where
   pub settled : (inode : ℕ) (pipe : Pipe WaitingCall) → row_at r.pipes inode ≡ Some pipe → IsPipeSettled pipe
 

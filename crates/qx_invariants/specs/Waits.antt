@@ -1,4 +1,4 @@
--- How many calls wait in pipes.
+-- How many calls wait in pipes and devices; a pipe stands for either here.
 use Rattle.std.specs.Prelude.{ℕ, ◌+◌, ◌==◌, ◌&&◌, not, Bool, false, true, List, Option, Some, None}
 use Rattle.std.specs.List.{count_by, sum_by}
 use Rattle.qx_types.specs.declared.outcome.Answer.{Answer}

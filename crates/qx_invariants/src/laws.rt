@@ -84,14 +84,15 @@ pub fn users_own_their_inodes()
     ensures { (config : Configuration) (steps : List Step) (user : ℕ) (part : Part) → row_at (run config steps).world.parts user ≡ Some part → IsOwnedBy user part.resources }
 {}
 
-/// A file has bytes and a pipe is there, as many as the size of their inode says; nothing else has any.
+/// A file has as many bytes as the size of its inode says, and so has a pipe, and a device, which is there by its own rules;
+/// nothing else has any.
 #[tactic(auto, using(crate::proofs::Reached::run_contents))]
 pub fn sizes_tell_contents()
     ensures { HoldsInRuns HasContents }
 {}
 
 /// No file has more than 65,536 bytes, nor have all files of a user more than 1,048,576, and no more than 4,096 stand in a
-/// pipe.
+/// pipe, or in a device.
 pub fn bytes_are_within_limits()
     ensures { HoldsInRuns HasLimits }
 {}
@@ -110,7 +111,7 @@ pub fn an_event_gives_one_pulse()
     ensures ended { (lives : ℕ → Bool) (before after : ℕ → Conditions) (events : Events) (process : ℕ) → process < length events.pulses → lives process ≡ false → line_at (triggered lives before after events).pulses process ≡ line_at events.pulses process }
 {}
 
-/// Nobody waits in a pipe who could be served: to settle it changes nothing and answers nobody.
+/// Nobody waits in a pipe or a device who could be served: to settle it changes nothing and answers nobody.
 #[tactic(auto, using(crate::proofs::Reached::run_settled))]
 pub fn nobody_waits_in_vain()
     ensures { HoldsInRuns HasSettledPipes }
@@ -144,13 +145,13 @@ pub fn directories_are_listed_whole()
     ensures told { HoldsInRuns (λ r. (directory other : ℕ) (after before : List ℕ) → listing (listed r.names directory after) ≡ listing (listed r.names other before) → listed r.names directory after ≡ listed r.names other before) }
 {}
 
-/// Each call that waits in a pipe is over an open control block of that pipe; so nobody waits in what is not open.
+/// Each call that waits in a pipe or a device is over an open control block of that; so nobody waits in what is not open.
 #[tactic(auto, using(crate::proofs::Reached::run_waiters))]
 pub fn who_waits_has_it_open()
     ensures { HoldsInRuns HasOpenWaiters }
 {}
 
-/// Each call that waits in a pipe is over an open control block of a client of its own process.
+/// Each call that waits in a pipe or a device is over an open control block of a client of its own process.
 #[tactic(auto, using(crate::proofs::Reached::run_own_waiters))]
 pub fn who_waits_is_the_client()
     ensures { HoldsInRuns HasOwnWaiters }
@@ -163,8 +164,8 @@ pub fn ended_processes_are_freed()
     ensures { (config : Configuration) (steps : List Step) (user : ℕ) (part : Part) (number : ℕ) (process : Process) → row_at (run config steps).world.parts user ≡ Some part → row_at part.processes number ≡ Some process → has_ended process ≡ true → (has_server process || is_held (own_held user (run config steps).world.hands) number) ≡ true }
 {}
 
-/// Of each thread that waits one call waits in the user's pipes, and of any other thread none, but one whose process has
-/// ended: so a call waits at most once, and no thread waits whose call is nowhere.
+/// Of each thread that waits one call waits in the user's pipes and devices, and of any other thread none, but one whose
+/// process has ended: so a call waits at most once, and no thread waits whose call is nowhere.
 pub fn threads_wait_once()
     ensures threads { HoldsOfParts WaitsOnce }
     ensures calls { HoldsInRuns (λ r. (process thread number : ℕ) → count_waiting (is_call process thread number) r.pipes ≤ 1) }

@@ -8,8 +8,8 @@
 //! they keep through steps and runs. `Rooms.antt`, `Contents.antt`, `Named.antt`, `Trees.antt`, `Astray.antt`,
 //! `Events.antt` and `Once.antt` have what these kinds leave of the laws; `Clients.antt` has who the clients of open
 //! control blocks are, and `Linked.antt` which connections have them and which server connections disconnect pulses name;
-//! `Together.antt` and `Reached.antt` put them together. The others stand below: calls on a pipe, rows and paths, one at
-//! a time.
+//! `Together.antt` and `Reached.antt` put them together. The others stand below: calls on a pipe or a device, rows and
+//! paths, one at a time.
 //!
 //! All of it is of the machine alone. That the crate stands above crates of code is for their lemmas.
 #![tactic(auto)]

@@ -15,7 +15,7 @@ use Rattle.qx_machine.specs.declared.rows.Attribute.{Attribute}
 use Rattle.qx_machine.specs.declared.rows.Client.{Client}
 use Rattle.qx_machine.specs.declared.rows.Effect.TheVariants.{Opens}
 use Rattle.qx_machine.specs.declared.rows.Kind.{Kind}
-use Rattle.qx_machine.specs.declared.rows.Kind.TheVariants.{Pipe}
+use Rattle.qx_machine.specs.declared.rows.Kind.TheVariants.{Device, Pipe}
 use Rattle.qx_machine.specs.declared.rows.NewOpen.{NewOpen}
 use Rattle.qx_machine.specs.declared.rows.Ocb.{Ocb}
 use Rattle.qx_machine.specs.declared.rows.Wish.{Wish}
@@ -28,8 +28,8 @@ use Rattle.qx_machine.specs.Names.{Names, is_directory, Spot, Key, is_empty, roo
 use Rattle.qx_machine.specs.RamManager.{emptied, with_bytes}
 use Rattle.qx_machine.specs.Resources.{Resources, with_empty}
 use Rattle.qx_isolation.specs.Rows.{lowest_from, put_row, row_at}
-use Rattle.qx_types.specs.declared.errno.Errno.{Errno}
-use Rattle.qx_types.specs.declared.errno.Errno.TheVariants.{EACCES, EEXIST, EISDIR, ENFILE, ENOENT}
+use Rattle.qx_errno.specs.declared.Errno.{Errno}
+use Rattle.qx_errno.specs.declared.Errno.TheVariants.{EACCES, EEXIST, EISDIR, ENFILE, ENOENT}
 use Rattle.qx_types.specs.declared.flags.OFlags.{OFlags}
 use Rattle.qx_types.specs.declared.flags.TheConstants.OFlags.{CREAT, EXCL, TRUNC}
 use Rattle.qx_types.specs.declared.limits.TheConstants.Limits.{BLOCKS}
@@ -169,6 +169,7 @@ opened_deed over after now number inode flags is = ap (λ block. block >>= (λ b
 -- what was there is no pipe that is made
 not_made : (kind : Kind) (number inode : ℕ) (r : Resources) → given.with_pipe_made kind (record { number = number; inode = inode; is_new = false }) r ≡ r
 not_made Pipe number inode r = refl
+not_made (Device device) number inode r = refl
 not_made kind number inode r = refl
 
 pub existing_done : (s : Stored) (now : Inodes) (number inode : ℕ) (over : NewOpen) (wish : Wish) → may_open s.inodes s.user inode wish.flags ≡ Ok number → with_number now (Ok number) ≡ open_block (emptied_in wish.flags inode wish.moment s).inodes inode wish.flags over.client → (r : Resources) (own : Kind)
@@ -242,12 +243,14 @@ module _ (r : Resources) (s : Stored) (over : NewOpen) (at : Spot) (own : Kind) 
 
   after_inodes : (kind : Kind) (new : New) → (after kind new).inodes ≡ (with_made at new.inode new.parent kind wish.mode wish.moment s).inodes
   after_inodes Pipe new = refl
+  after_inodes (Device device) new = refl
   after_inodes kind new = refl
 
   -- in the store, and with what is in it elsewhere
   after_is : (kind : Kind) (new : New) (number : ℕ) (now : Inodes)
       → record (after kind new) { inodes = now } ≡ given.with_pipe_made kind (record { number = number; inode = new.inode; is_new = true }) (with_stored r (record (with_made at new.inode new.parent kind wish.mode wish.moment s) { inodes = now }))
   after_is Pipe new number now = refl
+  after_is (Device device) new number now = refl
   after_is kind new number now = refl
 
   missing_is : (new : New) (block : ℕ) → may_make s.inodes s.user at.parent wish.flags ≡ Ok (new, block) → open_missing own (with_stored r s) over at wish ≡ opened over wish.flags new.inode (after own new)

@@ -1,12 +1,12 @@
 -- What a function gave, as a deed, with what it left.
 use Rattle.std.specs.Prelude.{ℕ, List, [], Option, Some, Result, Ok, Err, if◌then◌else◌}
 use Rattle.arrayvec.specs.ArrayVec.{ArrayVec}
-use Rattle.qx_types.specs.declared.errno.Errno.{Errno}
+use Rattle.qx_errno.specs.declared.Errno.{Errno}
 use Rattle.qx_types.specs.declared.names.Coid.{Coid}
 use Rattle.qx_iofunc.specs.declared.found.Opening.{Opening}
 use Rattle.qx_machine.specs.declared.rows.Effect.TheVariants.{Keeps, Opens}
 use Rattle.qx_machine.specs.declared.rows.Kind.{Kind}
-use Rattle.qx_machine.specs.declared.rows.Kind.TheVariants.{Pipe}
+use Rattle.qx_machine.specs.declared.rows.Kind.TheVariants.{Device, Pipe}
 use Rattle.qx_machine.specs.Functions.{Deed, reply_alone}
 use Rattle.qx_machine.specs.Resources.{Resources, with_empty, without_content}
 
@@ -25,14 +25,16 @@ abbrev pub status_told : Resources → Result (ArrayVec ℕ) Errno → Result (D
 status_told r (Ok status) = Ok (reply_alone 0 status.items Keeps r)
 status_told r (Err error) = Err error
 
--- ---- what a manager keeps elsewhere in its inodes, a pipe, is the manager's to make and to take away
+-- ---- what a manager keeps elsewhere in its inodes, a pipe or a device, is the manager's to make and to take away
 
 abbrev pub with_pipe_made : Kind → Opening → Resources → Resources
 with_pipe_made Pipe opening r = if opening.is_new then with_empty Pipe opening.inode r else r
+with_pipe_made (Device device) opening r = if opening.is_new then with_empty (Device device) opening.inode r else r
 with_pipe_made _ opening r = r
 
 abbrev pub with_pipe_gone : Kind → Option ℕ → Resources → Resources
 with_pipe_gone Pipe (Some inode) r = without_content Pipe inode r
+with_pipe_gone (Device device) (Some inode) r = without_content (Device device) inode r
 with_pipe_gone _ _ r = r
 
 -- an open of a connection

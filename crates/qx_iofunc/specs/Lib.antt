@@ -8,7 +8,7 @@ pub mod Laws
 pub mod Lookups
 -- what may be opened or made
 pub mod Makes
--- a pipe's size
+-- the size of what calls may wait in
 pub mod Sizes
 -- what contracts see of a store
 pub mod Store

@@ -68,7 +68,7 @@ impl Store {
     }
 
     /// Opens for a client what a lookup found, or makes what is missing, of the manager's own kind, and opens it; an open for
-    /// writing with TRUNC makes a file empty. What is in an inode that is made elsewhere, a pipe, is the caller's to make.
+    /// writing with TRUNC makes a file empty. What is in an inode that is made elsewhere, a pipe or a device, is the caller's to make.
     /// Where memory is short, nothing changes.
     pub fn open(
         &mut self,

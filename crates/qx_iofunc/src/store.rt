@@ -4,6 +4,7 @@ ghost use Rattle.qx_iofunc.specs.Sizes.{sized};
 ghost use Rattle.qx_iofunc.specs.Store.{boot_store, with_mount_root, with_stored};
 ghost use Rattle.qx_machine.specs.Files.{put, total_size};
 ghost use Rattle.qx_machine.specs.Inodes.{inode_number, with_offset};
+ghost use Rattle.qx_machine.specs.Names as names;
 ghost use Rattle.qx_machine.specs.RamManager.{with_bytes};
 ghost use Rattle.qx_machine.specs.Resources.{Resources};
 ghost use Rattle.qx_isolation.specs.Rows.{row_at, with_row};
@@ -111,14 +112,14 @@ impl Store {
         self.tables.inodes.set_offset(number, offset);
     }
 
-    /// Gives an inode that is a pipe another size, and where bytes went in the times of that.
+    /// Gives an inode in which calls may wait another size, and where bytes went in the times of that.
     pub fn set_size(&mut self, inode: u32, size: u64, filled: bool, moment: u64)
         ensures sized { self.new ≡ record self.old { stored = record self.old.stored { inodes = record self.old.stored.inodes { attributes = with_row self.old.stored.inodes.attributes inode (sized size filled moment) } } } }
     {
         let Some(attr) = self.tables.inodes.attr(inode) else {
             return;
         };
-        if attr.attribute.kind != Kind::Pipe {
+        if !has_calls(attr.attribute.kind) {
             return;
         }
         let mut attribute = Attribute {
@@ -153,4 +154,11 @@ impl Store {
         self.tables.resize(inode, size as u64, moment);
         Ok(())
     }
+}
+
+/// Whether calls may wait in an inode of this kind.
+fn has_calls(kind: Kind) -> bool
+    ensures { result ≡ names.has_calls kind }
+{
+    matches!(kind, Kind::Pipe | Kind::Device(_))
 }

@@ -1,11 +1,12 @@
 -- Who waits in a pipe afterwards, or is answered, waited there before or made the call: a property that all of those have, these have.
-use Rattle.std.proofs.Common.{◌≡◌, inl, inr, ℕ, ◌==◌, List, [], ◌∷◌, ◌++◌, length, drop, map, Bool, true, false, refl, sym, subst}
+use Rattle.std.proofs.Common.{◌≡◌, inl, inr, ℕ, ◌==◌, List, [], ◌∷◌, ◌++◌, length, map, Bool, true, false, refl, sym, subst}
 use Rattle.std.specs.Prelude.{ℤ, ◌&&◌, ◌||◌, Option, Some, None, Result, Ok, Err, filter, is_some, nat_le, not, position, slice_set, if◌then◌else◌}
 use Rattle.std.specs.List.{AllByRecursion}
 use Rattle.std.proofs.lemmas.Bool.{cond_both}
 use Rattle.std.proofs.lemmas.Option.{same_Some}
-use Rattle.qx_types.specs.declared.errno.Errno.{Errno}
-use Rattle.qx_types.specs.declared.errno.Errno.TheVariants.{EACCES, EBADF, EBUSY, EEXIST, EINVAL, EISDIR, ENOENT, ENOTEMPTY, EPIPE}
+use Rattle.qx_errno.specs.declared.Errno.{Errno}
+use Rattle.qx_errno.specs.declared.Errno.TheVariants.{EACCES, EBADF, EBUSY, EEXIST, EINVAL, EISDIR, ENOENT, ENOTEMPTY, EPIPE}
+use Rattle.qx_devices.specs.declared.Device.{Device}
 use Rattle.qx_types.specs.declared.fields.NotifyAction.{NotifyAction}
 use Rattle.qx_types.specs.declared.fields.Whence.{Whence}
 use Rattle.qx_types.specs.declared.flags.OFlags.{OFlags}
@@ -41,20 +42,21 @@ use Rattle.qx_machine.specs.declared.rows.Wish.{Wish}
 use Rattle.qx_machine.specs.Defaults.{MadeInode, allows, chmod_block, close_last, close_ocb, dup_open, free_block, is_own, list_block, made_at, make_directory, open_spot, open_existing, open_missing, open_path, opened, own_block, pipe_in, stat_block, stat_path, unlink_path, without_block, without_name, without_unused, writable}
 use Rattle.qx_machine.specs.Events.{notified}
 use Rattle.qx_machine.specs.Files.{base, moved_by}
-use Rattle.qx_machine.specs.Functions.{Deed, Reply, new_dup, new_open, reply_alone, side_root}
+use Rattle.qx_machine.specs.Functions.{Deed, Reply, message_deed, new_dup, new_open, reply_alone, side_root}
 use Rattle.qx_machine.specs.Inodes.{block_number, blocks_of_client, dup_block, has, is_shared, is_unused, new_attribute, new_inode, open_block, reads, writes}
 use Rattle.qx_isolation.specs.Judgements.{found, need}
-use Rattle.qx_machine.specs.Managers.{close_all, close_client, manager_deed, or_unreplied, own_kind}
+use Rattle.qx_machine.specs.Managers.{close_all, close_client, manager_deed, or_unreplied, own_kind, pipe_connect, pipe_io}
 use Rattle.qx_machine.specs.Names.{Spot, is_directory, is_empty, names_in, spot}
 use Rattle.qx_machine.specs.Notification.{conditions_at, event_of, notify_block}
 use Rattle.qx_machine.specs.Performing.{context_of, deed_of, dup_of, opened_by, read_message, works_over}
 use Rattle.qx_machine.specs.PipeManager.{cancel_call, read_pipe, released, seek_pipe, deed_of_pipe, write_pipe}
-use Rattle.qx_machine.specs.Pipes.{PipeAfter, Pipe, all_answered, and_then, cancel, clean, clean_read, clean_write, dismissed, first_answered, fits, nobody_answered, one_answered, portion, read, readers_dismissed, readers_ended, release, served, settle, staying, waiting_unless, without_bytes, write, writers_dismissed, writers_ended}
+use Rattle.qx_machine.specs.Pipes.{PipeAfter, Pipe, all_answered, and_then, cancel, clean, clean_read, clean_write, dismissed, first_answered, nobody_answered, one_answered, pipe_of, read, read_told, readers_dismissed, readers_ended, release, served, settle, staying, told_or_waiting, tried, waiting_unless, without_bytes, write, write_told, writers_dismissed, writers_ended}
 use Rattle.qx_machine.specs.Processes.{Process}
 use Rattle.qx_machine.specs.RamManager.{emptied, read_file, seek_file, write_file, written_at}
 use Rattle.qx_machine.specs.Resources.{Resources, with_empty, without_content}
 use Rattle.qx_isolation.specs.Rows.{row_at}
 use Rattle.qx_machine.specs.Servers.{is_numbered}
+use Rattle.qx_machine.specs.Verdicts.{sides_at}
 use Rattle.qx_machine.specs.Waiting.{caller_in, Pipes, holds, is_call, is_gone, offered, waiting_call, wanted}
 use Rattle.qx_machine.proofs.Gives.{Gives, found-row, gives_by, gives_done, gives_error, gives_if, gives_more, gives_on, gives-value}
 use Rattle.qx_isolation.proofs.Places.{row_at-set_cases}
@@ -109,20 +111,32 @@ module _ {W : Type 0} (P : W → Type 0) where
   -- ---- settling
 
   module _ (wanted : W → ℕ) (offered : W → List ℕ) where
-    served-keeps : (bytes : List ℕ) (readers writers : List W) → AllByRecursion P readers → AllByRecursion P writers → InAfter (served wanted offered bytes readers writers)
-    served-keeps (b ∷ bs) (reader ∷ readers) writers r w =
-        let rest = served-keeps (drop (portion wanted reader (b ∷ bs)) (b ∷ bs)) readers writers r.1 w in
-        record { pipe = rest.pipe; answers = (r.0, rest.answers) }
-    served-keeps bytes readers (writer ∷ writers) r w =
-        let rest = served-keeps (bytes ++ offered writer) readers writers r w.1 in
-        if-keeps (fits offered bytes writer) _ _
-        (record { pipe = rest.pipe; answers = (w.0, rest.answers) })
-        (nobody-keeps _ (record { readers = r; writers = w }))
-    served-keeps bytes readers [] r w = nobody-keeps _ (record { readers = r; writers = w })
+    tried-keeps : (who : W) (told : Option (Answer × List ℕ)) (next : List ℕ → PipeAfter W) (otherwise : PipeAfter W) → P who → ((bytes : List ℕ) → InAfter (next bytes)) → InAfter otherwise → InAfter (tried who told next otherwise)
+    tried-keeps who None next otherwise own left h = h
+    tried-keeps who (Some (answer, bytes)) next otherwise own left h = record { pipe = (left bytes).pipe; answers = (own, (left bytes).answers) }
+
+    served-keeps : (device : Option Device) (bytes : List ℕ) (readers writers : List W) → AllByRecursion P readers → AllByRecursion P writers → InAfter (served wanted offered device bytes readers writers)
+    served-keeps device bytes [] [] r w = nobody-keeps _ (record { readers = r; writers = w })
+    served-keeps device bytes (reader ∷ readers) [] r w =
+        tried-keeps reader (read_told wanted offered device bytes reader) (λ left. served wanted offered device left readers []) (nobody_answered (pipe_of device bytes (reader ∷ readers) []))
+        r.0 (λ left. served-keeps device left readers [] r.1 w)
+        (nobody-keeps (pipe_of device bytes (reader ∷ readers) []) (record { readers = r; writers = w }))
+    served-keeps device bytes [] (writer ∷ writers) r w =
+        tried-keeps writer (write_told wanted offered device bytes writer) (λ left. served wanted offered device left [] writers) (nobody_answered (pipe_of device bytes [] (writer ∷ writers)))
+        w.0 (λ left. served-keeps device left [] writers r w.1)
+        (nobody-keeps (pipe_of device bytes [] (writer ∷ writers)) (record { readers = r; writers = w }))
+    served-keeps device bytes (reader ∷ readers) (writer ∷ writers) r w =
+        let neither = nobody_answered (pipe_of device bytes (reader ∷ readers) (writer ∷ writers)) in
+        let written = tried writer (write_told wanted offered device bytes writer) (λ left. served wanted offered device left (reader ∷ readers) writers) neither in
+        tried-keeps reader (read_told wanted offered device bytes reader) (λ left. served wanted offered device left readers (writer ∷ writers)) written
+        r.0 (λ left. served-keeps device left readers (writer ∷ writers) r.1 w)
+        (tried-keeps writer (write_told wanted offered device bytes writer) (λ left. served wanted offered device left (reader ∷ readers) writers) neither
+        w.0 (λ left. served-keeps device left (reader ∷ readers) writers r w.1)
+        (nobody-keeps (pipe_of device bytes (reader ∷ readers) (writer ∷ writers)) (record { readers = r; writers = w })))
 
     settle-keeps : (p : Pipe W) → InPipe p → InAfter (settle wanted offered p)
     unfolding settle
-    settle-keeps p h = served-keeps p.bytes p.readers p.writers h.readers h.writers
+    settle-keeps p h = served-keeps p.device p.bytes p.readers p.writers h.readers h.writers
 
   -- ---- who leaves
 
@@ -154,19 +168,16 @@ module _ {W : Type 0} (P : W → Type 0) where
       if-keeps manner.is_nonblock _ _ (one-keeps who _ p own h) (if-keeps manner.is_asked _ _ (one-keeps who _ p own h) (nobody-keeps with_it waits))
 
   module _ (wanted : W → ℕ) (offered : W → List ℕ) where
+    told-keeps : (manner : Manner) (who : W) (ended : Option Answer) (told : Option (Answer × List ℕ)) (p with_it : Pipe W) → P who → InPipe p → InPipe with_it → InAfter (told_or_waiting wanted offered manner who ended told p with_it)
+    told-keeps manner who (Some answer) told p with_it own h waits = one-keeps who answer p own h
+    told-keeps manner who None told p with_it own h waits =
+        tried-keeps wanted offered who told (λ left. settle wanted offered (record p { bytes = left })) (waiting_unless manner who p with_it) own (λ left. settle-keeps wanted offered _ (record { readers = h.readers; writers = h.writers })) (waiting-keeps manner who p with_it own h waits)
+
     clean_read-keeps : (manner : Manner) (reader : W) → P reader → (p : Pipe W) → InPipe p → InAfter (clean_read wanted offered manner reader p)
-    clean_read-keeps manner reader own p h =
-        if-keeps (wanted reader == 0) _ _ (one-keeps reader _ p own h)
-        (if-keeps (not (length p.bytes == 0)) _ _ (first-keeps reader _ _ own (settle-keeps wanted offered _ (record { readers = h.readers; writers = h.writers })))
-        (if-keeps (not manner.has_other_side) _ _ (one-keeps reader _ p own h)
-        (waiting-keeps manner reader p _ own h (record { readers = all-append P p.readers (reader ∷ []) h.readers (own, tt); writers = h.writers }))))
+    clean_read-keeps manner reader own p h = told-keeps manner reader _ _ p _ own h (record { readers = all-append P p.readers (reader ∷ []) h.readers (own, tt); writers = h.writers })
 
     clean_write-keeps : (manner : Manner) (writer : W) → P writer → (p : Pipe W) → InPipe p → InAfter (clean_write wanted offered manner writer p)
-    clean_write-keeps manner writer own p h =
-        if-keeps (length (offered writer) == 0) _ _ (one-keeps writer _ p own h)
-        (if-keeps (not manner.has_other_side) _ _ (one-keeps writer _ p own h)
-        (if-keeps ((length p.writers == 0) && fits offered p.bytes writer) _ _ (first-keeps writer _ _ own (settle-keeps wanted offered _ (record { readers = h.readers; writers = h.writers })))
-        (waiting-keeps manner writer p _ own h (record { readers = h.readers; writers = all-append P p.writers (writer ∷ []) h.writers (own, tt) }))))
+    clean_write-keeps manner writer own p h = told-keeps manner writer _ _ p _ own h (record { readers = h.readers; writers = all-append P p.writers (writer ∷ []) h.writers (own, tt) })
 
   -- ---- the freeing of a block
 
@@ -212,9 +223,9 @@ module _ {W : Type 0} (P : W → Type 0) (wanted : W → ℕ) (offered : W → L
   release-keeps is_on_it sides p h =
       then-keeps IsLeft _ _
       (then-keeps IsLeft _ _
-      (then-keeps IsLeft _ _ (then-keeps IsLeft _ _ (then-keeps IsLeft _ _ (clean-keeps p h) (dismissed-keeps IsLeft is_on_it _)) (readers_ended-keeps IsLeft sides)) (writers_ended-keeps IsLeft sides))
+      (then-keeps IsLeft _ _ (then-keeps IsLeft _ _ (then-keeps IsLeft _ _ (clean-keeps p h) (dismissed-keeps IsLeft is_on_it _)) (readers_ended-keeps IsLeft (sides_at p.device sides))) (writers_ended-keeps IsLeft (sides_at p.device sides)))
       (settle-keeps IsLeft wanted offered))
-      (without_bytes-keeps IsLeft sides)
+      (without_bytes-keeps IsLeft (sides_at p.device sides))
 
 -- ---- the pipes of a user
 
@@ -241,11 +252,13 @@ module _ (P : WaitingCall → Type 0) where
   empty-keeps File inode r h = h
   empty-keeps Directory inode r h = h
   empty-keeps kind.Pipe inode r h = set-keeps r.pipes inode _ h (λ pipe made. subst (InPipe P) (same_Some _ _ made) (record { readers = tt; writers = tt }))
+  empty-keeps (kind.Device device) inode r h = set-keeps r.pipes inode _ h (λ pipe made. subst (InPipe P) (same_Some _ _ made) (record { readers = tt; writers = tt }))
 
   content-keeps : (kind : Kind) (inode : ℕ) (r : Resources) → InPipes r.pipes → InPipes (without_content kind inode r).pipes
   content-keeps File inode r h = h
   content-keeps Directory inode r h = h
   content-keeps kind.Pipe inode r h = set-keeps r.pipes inode None h (λ pipe none. absurd (cc))
+  content-keeps (kind.Device device) inode r h = set-keeps r.pipes inode None h (λ pipe none. absurd (cc))
 
   -- ---- what is done to a pipe
 
@@ -408,6 +421,7 @@ module _ (P : WaitingCall → Type 0) where
       gives_done _ _ (record { pipes = unused-keeps (InPipes P) own (content-keeps P own) block.inode (released (without_block number r) number block.inode moment (pipe_in own r block.inode)).state left.pipes; answers = left.answers })) where
         here : (own : Kind) (inode : ℕ) (pipe : Pipe WaitingCall) → pipe_in own r inode ≡ Some pipe → InPipe P pipe
         here kind.Pipe inode pipe is = h.each inode pipe is
+        here (kind.Device device) inode pipe is = h.each inode pipe is
         here File inode pipe is = absurd (cc)
         here Directory inode pipe is = absurd (cc)
 
@@ -507,9 +521,9 @@ module _ (P : WaitingCall → Type 0) (caller : Caller) where
   own-gives (Err error) none h = gives_error _ _
 
   module _ (resources : Resources) (h : InPipes P resources.pipes) (context : Context) (callers : (over : Opened) → context.opened ≡ Ok over → caller_in over ≡ caller) where
-    pipe-closed : (over : Opened) → Gives DeedKeeps (close_last kind.Pipe resources over)
-    pipe-closed over =
-        gives_by (InDeed P) _ (close_ocb kind.Pipe resources over.number over.moment) _ (ocb-gives P kind.Pipe resources over.number over.moment h) (λ deed left.
+    pipe-closed : (own : Kind) (over : Opened) → Gives DeedKeeps (close_last own resources over)
+    pipe-closed own over =
+        gives_by (InDeed P) _ (close_ocb own resources over.number over.moment) _ (ocb-gives P own resources over.number over.moment h) (λ deed left.
         gives_done _ _ (record { keeps = λ own. record { pipes = left.pipes; answers = left.answers } }))
 
     read-own : (over : Opened) (count : ℕ) → caller_in over ≡ caller → Gives DeedKeeps (read_pipe resources over count)
@@ -518,26 +532,27 @@ module _ (P : WaitingCall → Type 0) (caller : Caller) where
     write-own : (over : Opened) (bytes : List ℕ) → caller_in over ≡ caller → Gives DeedKeeps (write_pipe resources over bytes)
     write-own over bytes same = own-gives _ (λ deed is. gives-value (λ (d : Deed Resources). d.reply ≡ None) _ deed is (search (gives_on, gives_done))) (λ own. write-gives P resources over bytes h (own-waits over 0 bytes same own))
 
-    pipe-gives : (message : Message) → Gives DeedKeeps (manager_deed managers.Pipe resources context message)
-    pipe-gives (msg.Open flags mode rest) = gives_on _ (new_open context) _ (λ over is. quiet-gives _ (open-gives (InPipes P) kind.Pipe resources over rest _ (empty-keeps P kind.Pipe) h))
-    pipe-gives (msg.Stat rest) = gives_on _ (side_root context.target) _ (λ root is. quiet-gives _ (stat_path-gives (InPipes P) resources root rest context.moment h))
-    pipe-gives (msg.Unlink rest) = gives_on _ (side_root context.target) _ (λ root is. quiet-gives _ (unlink-gives (InPipes P) kind.Pipe (content-keeps P kind.Pipe) resources root rest context.moment h))
-    pipe-gives (msg.Mknod mode rest) = gives_error _ _
-    pipe-gives (msg.Read count) = gives_on _ context.opened _ (λ over is. read-own over count (callers over is))
-    pipe-gives (msg.Write bytes) = gives_on _ context.opened _ (λ over is. write-own over bytes (callers over is))
-    pipe-gives msg.Close = gives_on _ context.opened _ (λ over is.
+    pipe-gives : (own : Kind) (message : Message) → Gives DeedKeeps (message_deed (pipe_connect own) (pipe_io own) resources context message)
+    pipe-gives own (msg.Open flags mode rest) = gives_on _ (new_open context) _ (λ over is. quiet-gives _ (open-gives (InPipes P) own resources over rest _ (empty-keeps P own) h))
+    pipe-gives own (msg.Stat rest) = gives_on _ (side_root context.target) _ (λ root is. quiet-gives _ (stat_path-gives (InPipes P) resources root rest context.moment h))
+    pipe-gives own (msg.Unlink rest) = gives_on _ (side_root context.target) _ (λ root is. quiet-gives _ (unlink-gives (InPipes P) own (content-keeps P own) resources root rest context.moment h))
+    pipe-gives own (msg.Mknod mode rest) = gives_error _ _
+    pipe-gives own (msg.Read count) = gives_on _ context.opened _ (λ over is. read-own over count (callers over is))
+    pipe-gives own (msg.Write bytes) = gives_on _ context.opened _ (λ over is. write-own over bytes (callers over is))
+    pipe-gives own msg.Close = gives_on _ context.opened _ (λ over is.
         gives_if _ (is_shared (row_at resources.inodes.blocks over.number)) _ _ (gives_done _ _ (quiet-keeps _ (reply-quiet (InPipes P) _ _ _ _ h)))
-        (pipe-closed over))
-    pipe-gives (msg.Dup old) = gives_on _ (new_dup context) _ (λ dup is. quiet-gives _ (dup-gives (InPipes P) resources dup h))
-    pipe-gives (msg.Lseek whence offset) = gives_on _ context.opened _ (λ over is. quiet-gives _ (seek_pipe-gives (InPipes P) resources over whence offset))
-    pipe-gives msg.Fstat = gives_on _ context.opened _ (λ over is. quiet-gives _ (stat_block-gives (InPipes P) resources over h))
-    pipe-gives (msg.List after) = gives_on _ context.opened _ (λ over is. quiet-gives _ (list-gives (InPipes P) resources over after h))
-    pipe-gives (msg.Notify action conditions code value) = gives_on _ context.opened _ (λ over is. quiet-gives _ (notify-gives (InPipes P) resources over action _ h))
-    pipe-gives (msg.Chmod mode) = gives_on _ context.opened _ (λ over is. quiet-gives _ (chmod-gives (InPipes P) resources over mode h))
+        (pipe-closed own over))
+    pipe-gives own (msg.Dup old) = gives_on _ (new_dup context) _ (λ dup is. quiet-gives _ (dup-gives (InPipes P) resources dup h))
+    pipe-gives own (msg.Lseek whence offset) = gives_on _ context.opened _ (λ over is. quiet-gives _ (seek_pipe-gives (InPipes P) resources over whence offset))
+    pipe-gives own msg.Fstat = gives_on _ context.opened _ (λ over is. quiet-gives _ (stat_block-gives (InPipes P) resources over h))
+    pipe-gives own (msg.List after) = gives_on _ context.opened _ (λ over is. quiet-gives _ (list-gives (InPipes P) resources over after h))
+    pipe-gives own (msg.Notify action conditions code value) = gives_on _ context.opened _ (λ over is. quiet-gives _ (notify-gives (InPipes P) resources over action _ h))
+    pipe-gives own (msg.Chmod mode) = gives_on _ context.opened _ (λ over is. quiet-gives _ (chmod-gives (InPipes P) resources over mode h))
 
     manager-gives : (manager : Manager) (message : Message) → Gives DeedKeeps (manager_deed manager resources context message)
     manager-gives managers.Ram message = gives_more (IsAlone resources) DeedKeeps _ (λ deed. alone-keeps resources deed h) (ram-gives resources context message)
-    manager-gives managers.Pipe message = pipe-gives message
+    manager-gives managers.Pipe message = pipe-gives kind.Pipe message
+    manager-gives (managers.Device device) message = pipe-gives (kind.Device device) message
 
 pub opened_by-caller : (process : Process) (caller : Caller) (target : Target) (moment : ℕ) (old : Option Coid) (over : Opened) → opened_by process caller target moment old ≡ Ok over → caller_in over ≡ caller
 opened_by-caller process caller target moment old over is =

@@ -2,13 +2,14 @@
 use Rattle.std.specs.Prelude.{ℕ, List, ◌++◌}
 use Rattle.std.specs.Int.{w16, w32, w64, to_le_bytes}
 use Rattle.qx_machine.specs.declared.rows.Kind.{Kind}
-use Rattle.qx_machine.specs.declared.rows.Kind.TheVariants.{File, Directory, Pipe}
+use Rattle.qx_machine.specs.declared.rows.Kind.TheVariants.{File, Directory, Pipe, Device}
 use Rattle.qx_machine.specs.declared.rows.Attribute.{Attribute}
 
 abbrev pub kind_code : Kind → ℕ
 kind_code File = 1
 kind_code Directory = 2
 kind_code Pipe = 3
+kind_code (Device device) = 4
 
 -- the root of a mount, at first: a directory that its owner may read, write and search
 abbrev pub root_attribute : ℕ → Attribute

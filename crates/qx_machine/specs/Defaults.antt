@@ -3,15 +3,15 @@
 -- listing is cut, is this profile.
 use Rattle.std.specs.Prelude.{ℕ, ◌&&◌, ◌||◌, ◌==◌, not, Bool, List, [], Option, Some, None, Result, Ok, is_some, length, if◌then◌else◌}
 use Rattle.std.specs.FinMap.{insert, remove}
-use Rattle.qx_types.specs.declared.errno.Errno.{Errno}
-use Rattle.qx_types.specs.declared.errno.Errno.TheVariants.{EACCES, EBADF, EBUSY, EEXIST, EISDIR, ENOENT, ENOTDIR, ENOTEMPTY, EPERM}
+use Rattle.qx_errno.specs.declared.Errno.{Errno}
+use Rattle.qx_errno.specs.declared.Errno.TheVariants.{EACCES, EBADF, EBUSY, EEXIST, EISDIR, ENOENT, ENOTDIR, ENOTEMPTY, EPERM}
 use Rattle.qx_types.specs.declared.flags.OFlags.{OFlags}
 use Rattle.qx_types.specs.declared.flags.TheConstants.OFlags.{CREAT, EXCL}
 use Rattle.qx_machine.specs.declared.rows.Access.TheVariants.{Read, Write}
 use Rattle.qx_machine.specs.declared.rows.Attribute.{Attribute}
 use Rattle.qx_machine.specs.declared.rows.Effect.TheVariants.{Closes, Keeps, Opens}
 use Rattle.qx_machine.specs.declared.rows.Kind.{Kind}
-use Rattle.qx_machine.specs.declared.rows.Kind.TheVariants.{Directory, Pipe}
+use Rattle.qx_machine.specs.declared.rows.Kind.TheVariants.{Device, Directory, Pipe}
 use Rattle.qx_machine.specs.declared.rows.NewDup.{NewDup}
 use Rattle.qx_machine.specs.declared.rows.NewOpen.{NewOpen}
 use Rattle.qx_machine.specs.declared.rows.Ocb.{Ocb}
@@ -170,6 +170,7 @@ without_block number r = record r { inodes = close_block r.inodes number }
 -- where calls may wait in an inode of a manager's own kind
 abbrev pub pipe_in : Kind → Resources → ℕ → Option (pipes.Pipe WaitingCall)
 pipe_in Pipe r inode = row_at r.pipes inode
+pipe_in (Device device) r inode = row_at r.pipes inode
 pipe_in _ r inode = None
 
 -- what an open control block had open goes too, if that was all that kept it

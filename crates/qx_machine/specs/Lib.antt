@@ -25,5 +25,6 @@ pub mod Runs
 pub mod Servers
 pub mod Settling
 pub mod Users
+pub mod Verdicts
 pub mod Waiting
 pub mod Wants

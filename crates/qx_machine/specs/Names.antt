@@ -6,12 +6,13 @@ use Rattle.std.specs.FinMap.{FinMap, entries, get, insert}
 use Rattle.std.specs.List.{flat_map}
 use Rattle.std.specs.Ordering.{is_lt, nat_cmp, on, then_cmp}
 use Rattle.std.specs.declared.cmp.Ordering.{Ordering}
-use Rattle.qx_types.specs.declared.errno.Errno.{Errno}
-use Rattle.qx_types.specs.declared.errno.Errno.TheVariants.{EACCES, ENOENT, ENOTDIR}
+use Rattle.qx_errno.specs.declared.Errno.{Errno}
+use Rattle.qx_errno.specs.declared.Errno.TheVariants.{EACCES, ENOENT, ENOTDIR}
+use Rattle.qx_devices.specs.Devices.{device_number}
 use Rattle.qx_types.specs.declared.limits.TheConstants.Limits.{TRANSFER}
 use Rattle.qx_machine.specs.declared.rows.Access.TheVariants.{Search}
 use Rattle.qx_machine.specs.declared.rows.Kind.{Kind}
-use Rattle.qx_machine.specs.declared.rows.Kind.TheVariants.{Directory, File, Pipe}
+use Rattle.qx_machine.specs.declared.rows.Kind.TheVariants.{Directory, File, Pipe, Device}
 use Rattle.qx_machine.specs.Inodes.{Inodes, may}
 use Rattle.qx_isolation.specs.Judgements.{◌>>=◌, found, need}
 use Rattle.qx_isolation.specs.Rows.{row_at}
@@ -50,7 +51,14 @@ abbrev pub is_same_kind : Kind → Kind → Bool
 is_same_kind File File = true
 is_same_kind Directory Directory = true
 is_same_kind Pipe Pipe = true
+is_same_kind (Device one) (Device other) = device_number one == device_number other
 is_same_kind _ _ = false
+
+-- calls may wait in it
+abbrev pub has_calls : Kind → Bool
+has_calls Pipe = true
+has_calls (Device device) = true
+has_calls _ = false
 
 -- a name may be looked up in what a path leads to: in a directory, with search (C Library Reference: ENOTDIR, EACCES)
 abbrev pub search : Inodes → ℕ → ℕ → Result Bool Errno

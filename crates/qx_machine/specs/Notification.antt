@@ -1,10 +1,9 @@
 -- Notification: which conditions hold of what is open, and what a message that asks for it does (C Library Reference: ionotify; Writing a
 -- Resource Manager: iofunc_notify; that files and directories always have both is this profile).
-use Rattle.std.specs.Prelude.{ℕ, ◌==◌, ◌||◌, not, Bool, true, Option, Some, None, Result, Ok, [], length, nat_lt}
-use Rattle.qx_types.specs.declared.errno.Errno.{Errno}
-use Rattle.qx_types.specs.declared.errno.Errno.TheVariants.{EBADF}
+use Rattle.std.specs.Prelude.{ℕ, Bool, true, Option, Some, None, Result, Ok, []}
+use Rattle.qx_errno.specs.declared.Errno.{Errno}
+use Rattle.qx_errno.specs.declared.Errno.TheVariants.{EBADF}
 use Rattle.qx_types.specs.declared.fields.NotifyAction.{NotifyAction}
-use Rattle.qx_types.specs.declared.limits.TheConstants.Limits.{PIPE}
 use Rattle.qx_machine.specs.declared.rows.Conditions.{Conditions}
 use Rattle.qx_machine.specs.declared.rows.Effect.TheVariants.{Keeps}
 use Rattle.qx_machine.specs.declared.rows.Event.{Event}
@@ -19,15 +18,15 @@ use Rattle.qx_isolation.specs.Judgements.{◌>>=◌, found}
 use Rattle.qx_machine.specs.Pipes.{Pipe}
 use Rattle.qx_machine.specs.Resources.{Resources}
 use Rattle.qx_isolation.specs.Rows.{row_at}
+use Rattle.qx_machine.specs.Verdicts.{may_read, may_write}
 use Rattle.qx_machine.specs.Waiting.{sides_of}
 
--- a pipe has input where bytes stand or nobody has it open for writing, and output where bytes have room or nobody has it open for
--- reading; whatever else is open has both always
+-- a pipe and a device have what a read and a write would not wait for; whatever else is open has both always
 abbrev pub conditions_of : Sides → Option (Pipe WaitingCall) → Conditions
 conditions_of sides None = record { input = true; output = true }
 conditions_of sides (Some pipe) = record {
-  input = not (length pipe.bytes == 0) || not sides.for_writing;
-  output = nat_lt (length pipe.bytes) PIPE || not sides.for_reading;
+  input = may_read pipe.device sides pipe.bytes;
+  output = may_write pipe.device sides pipe.bytes;
 }
 
 -- of what a block has open

@@ -2,19 +2,18 @@
 -- pipe to be opened, and that a pipe mount has no directory but its root, is this profile).
 use Rattle.std.specs.Prelude.{ℕ, ℤ, not, List, [], Option, Some, None, Result, Ok, Err, position, length, slice_set, if◌then◌else◌}
 use Rattle.std.specs.List.{list_any}
-use Rattle.qx_types.specs.declared.errno.Errno.{Errno}
-use Rattle.qx_types.specs.declared.errno.Errno.TheVariants.{EBADF, EINVAL, EISDIR, ESPIPE}
+use Rattle.qx_errno.specs.declared.Errno.{Errno}
+use Rattle.qx_errno.specs.declared.Errno.TheVariants.{EBADF, EINVAL, EISDIR, ESPIPE}
 use Rattle.qx_types.specs.declared.fields.Whence.{Whence}
 use Rattle.qx_types.specs.declared.outcome.Outcome.{Outcome}
 use Rattle.qx_types.specs.declared.outcome.Outcome.TheVariants.{WrongState}
 use Rattle.qx_machine.specs.declared.rows.Attribute.{Attribute}
-use Rattle.qx_machine.specs.declared.rows.Kind.TheVariants as kind
 use Rattle.qx_machine.specs.declared.rows.Opened.{Opened}
 use Rattle.qx_machine.specs.declared.rows.WaitingCall.{WaitingCall}
 use Rattle.qx_machine.specs.Functions.{Deed}
 use Rattle.qx_machine.specs.Inodes.{readers_of, reads, writers_of, writes}
 use Rattle.qx_isolation.specs.Judgements.{◌>>=◌, found, need}
-use Rattle.qx_machine.specs.Names.{is_directory, is_same_kind}
+use Rattle.qx_machine.specs.Names.{has_calls, is_directory}
 use Rattle.qx_machine.specs.Pipes.{PipeAfter, Pipe, cancel, read, release, write}
 use Rattle.qx_machine.specs.Resources.{Resources, resized}
 use Rattle.qx_isolation.specs.Rows.{row_at, with_row}
@@ -23,7 +22,7 @@ use Rattle.qx_machine.specs.Waiting.{holds, is_call, is_gone, is_over, is_writte
 -- the size of a pipe is the number of the bytes that stand; where some went in, its times are the moment
 abbrev pub filled : ℕ → PipeAfter WaitingCall → Attribute → Attribute
 filled moment after attribute =
-    if not (is_same_kind kind.Pipe attribute.kind) then attribute
+    if not (has_calls attribute.kind) then attribute
     else if list_any (λ answer. is_written (offered answer.0) answer.1) after.answers then resized (length after.pipe.bytes) moment attribute
     else record attribute { size = length after.pipe.bytes }
 

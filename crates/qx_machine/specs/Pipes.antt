@@ -1,15 +1,18 @@
 -- Pipes (C Library Reference: pipe, read, write, close; that nobody waits for an open, that a write is never taken in part, and how many
--- bytes stand in a pipe is this profile). What waits in a pipe are messages, told by whatever stands for them.
-use Rattle.std.specs.Prelude.{Bool, ◌==◌, ◌&&◌, ◌||◌, not, true, filter, ℕ, ◌+◌, List, [], ◌∷◌, ◌++◌, length, take, drop, map, min, nat_le, if◌then◌else◌}
-use Rattle.qx_types.specs.declared.errno.Errno.TheVariants.{EAGAIN, EBADF, EINTR, EPIPE}
-use Rattle.qx_types.specs.declared.limits.TheConstants.Limits.{PIPE}
+-- bytes stand in a pipe is this profile), and devices of an author's own, in which calls wait as in a pipe. What waits are messages, told by
+-- whatever stands for them.
+use Rattle.std.specs.Prelude.{Bool, ◌==◌, ◌||◌, not, true, filter, ℕ, List, [], ◌∷◌, ◌++◌, length, map, Option, Some, None, if◌then◌else◌}
+use Rattle.qx_errno.specs.declared.Errno.TheVariants.{EAGAIN, EBADF, EINTR, EPIPE}
+use Rattle.qx_devices.specs.declared.Device.{Device}
 use Rattle.qx_types.specs.declared.outcome.Answer.{Answer}
 use Rattle.qx_types.specs.declared.outcome.Answer.TheVariants.{Reply, Failed}
 use Rattle.qx_machine.specs.declared.rows.Manner.{Manner}
 use Rattle.qx_machine.specs.declared.rows.Sides.{Sides}
+use Rattle.qx_machine.specs.Verdicts.{read_ended, read_of, sides_at, told_of, write_ended, write_of}
 
--- the bytes that stand in a pipe, and who waits to read and to write, in order of waiting
+-- the bytes that stand in a pipe, and who waits to read and to write, in order of waiting; or the bytes of a device, and who waits there
 pub record Pipe (W : Type 0) : Type 0 where
+  pub device : Option Device
   pub bytes : List ℕ
   pub readers : List W
   pub writers : List W
@@ -22,8 +25,8 @@ pub record PipeAfter (W : Type 0) : Type 0 where
 -- ---- answers
 
 module _ {W : Type 0} where
-  abbrev pub pipe_of : List ℕ → List W → List W → Pipe W
-  pipe_of bytes readers writers = record { bytes = bytes; readers = readers; writers = writers }
+  abbrev pub pipe_of : Option Device → List ℕ → List W → List W → Pipe W
+  pipe_of device bytes readers writers = record { device = device; bytes = bytes; readers = readers; writers = writers }
 
   abbrev pub nobody_answered : Pipe W → PipeAfter W
   nobody_answered p = record { pipe = p; answers = [] }
@@ -40,35 +43,41 @@ module _ {W : Type 0} where
   abbrev pub answered_first : List (W × Answer) → PipeAfter W → PipeAfter W
   answered_first answers after = record { pipe = after.pipe; answers = answers ++ after.answers }
 
+  -- one is answered so, if at all, and the rest is done with the bytes that stand then
+  abbrev pub tried : W → Option (Answer × List ℕ) → (List ℕ → PipeAfter W) → PipeAfter W → PipeAfter W
+  tried who None next otherwise = otherwise
+  tried who (Some (answer, bytes)) next otherwise = first_answered who answer (next bytes)
+
   -- what follows is done with the pipe as it is then
   abbrev pub and_then : PipeAfter W → (Pipe W → PipeAfter W) → PipeAfter W
   and_then first next = answered_first first.answers (next first.pipe)
 
 -- ---- settling
 
--- how many bytes a reader gets of those that stand
-abbrev pub portion : {W : Type 0} → (W → ℕ) → W → List ℕ → ℕ
-portion wanted reader bytes = min (wanted reader) (length bytes)
-
--- a writer's bytes fit beside those that stand
-abbrev pub fits : {W : Type 0} → (W → List ℕ) → List ℕ → W → Bool
-fits offered bytes writer = nat_le (length bytes + length (offered writer)) PIPE
-
 module _ {W : Type 0} (wanted : W → ℕ) (offered : W → List ℕ) where
-  -- where a reader waits and bytes stand, the first reader gets the first of them; else where a writer waits and its bytes fit, the first
-  -- writer's go in; again until neither
-  abbrev pub served : List ℕ → List W → List W → PipeAfter W
-  served (b ∷ bs) (reader ∷ readers) writers =
-      first_answered reader (Reply (portion wanted reader (b ∷ bs)) (take (portion wanted reader (b ∷ bs)) (b ∷ bs)))
-      (served (drop (portion wanted reader (b ∷ bs)) (b ∷ bs)) readers writers)
-  served bytes readers (writer ∷ writers) =
-      if fits offered bytes writer
-      then first_answered writer (Reply (length (offered writer)) []) (served (bytes ++ offered writer) readers writers)
-      else nobody_answered (pipe_of bytes readers (writer ∷ writers))
-  served bytes readers [] = nobody_answered (pipe_of bytes readers [])
+  -- what a reader and a writer are told by the bytes that stand
+  abbrev pub read_told : Option Device → List ℕ → W → Option (Answer × List ℕ)
+  read_told device bytes reader = told_of bytes (read_of device (wanted reader) bytes)
+
+  abbrev pub write_told : Option Device → List ℕ → W → Option (Answer × List ℕ)
+  write_told device bytes writer = told_of bytes (write_of device (offered writer) bytes)
+
+  -- the first reader is answered, if it can be; else the first writer; again until neither
+  abbrev pub served : Option Device → List ℕ → List W → List W → PipeAfter W
+  served device bytes [] [] = nobody_answered (pipe_of device bytes [] [])
+  served device bytes (reader ∷ readers) [] =
+      tried reader (read_told device bytes reader) (λ left. served device left readers [])
+      (nobody_answered (pipe_of device bytes (reader ∷ readers) []))
+  served device bytes [] (writer ∷ writers) =
+      tried writer (write_told device bytes writer) (λ left. served device left [] writers)
+      (nobody_answered (pipe_of device bytes [] (writer ∷ writers)))
+  served device bytes (reader ∷ readers) (writer ∷ writers) =
+      tried reader (read_told device bytes reader) (λ left. served device left readers (writer ∷ writers))
+      (tried writer (write_told device bytes writer) (λ left. served device left (reader ∷ readers) writers)
+      (nobody_answered (pipe_of device bytes (reader ∷ readers) (writer ∷ writers))))
 
   unfoldable pub settle : Pipe W → PipeAfter W
-  settle p = served p.bytes p.readers p.writers
+  settle p = served p.device p.bytes p.readers p.writers
 
 -- ---- who leaves
 
@@ -116,6 +125,10 @@ module _ {W : Type 0} where
   abbrev pub with_writer : Pipe W → W → Pipe W
   with_writer p writer = record p { writers = p.writers ++ writer ∷ [] }
 
+  -- a call comes in its turn where nobody waits before it
+  abbrev pub if_first : List W → Option (Answer × List ℕ) → Option (Answer × List ℕ)
+  if_first others told = if length others == 0 then told else None
+
   -- who can't be served at once waits, unless its block is NONBLOCK or it was asked to unblock
   abbrev pub waiting_unless : Manner → W → Pipe W → Pipe W → PipeAfter W
   waiting_unless manner who p with_it =
@@ -124,22 +137,20 @@ module _ {W : Type 0} where
       else nobody_answered with_it
 
 module _ {W : Type 0} (wanted : W → ℕ) (offered : W → List ℕ) where
-  -- a READ of a clean pipe: for nothing it is done; bytes that stand are given, though nobody writes any more; a pipe that nobody writes
-  -- has come to its end
+  -- it is told that at once, if anything; else it is answered in its turn, and others may be served then; else it waits
+  abbrev pub told_or_waiting : Manner → W → Option Answer → Option (Answer × List ℕ) → Pipe W → Pipe W → PipeAfter W
+  told_or_waiting manner who (Some answer) told p with_it = one_answered who answer p
+  told_or_waiting manner who None told p with_it = tried who told (λ left. settle wanted offered (record p { bytes = left })) (waiting_unless manner who p with_it)
+
+  -- a READ of a clean pipe
   abbrev pub clean_read : Manner → W → Pipe W → PipeAfter W
   clean_read manner reader p =
-      if wanted reader == 0 then one_answered reader (Reply 0 []) p
-      else if not (length p.bytes == 0) then first_answered reader (Reply (portion wanted reader p.bytes) (take (portion wanted reader p.bytes) p.bytes)) (settle wanted offered (record p { bytes = drop (portion wanted reader p.bytes) p.bytes }))
-      else if not manner.has_other_side then one_answered reader (Reply 0 []) p
-      else waiting_unless manner reader p (with_reader p reader)
+      told_or_waiting manner reader (read_ended p.device manner (wanted reader) p.bytes) (if_first p.readers (read_told wanted offered p.device p.bytes reader)) p (with_reader p reader)
 
-  -- a WRITE to a clean pipe: of nothing it is done; nobody reads any more: EPIPE; its bytes go in where they fit and no other waits
+  -- a WRITE to a clean pipe
   abbrev pub clean_write : Manner → W → Pipe W → PipeAfter W
   clean_write manner writer p =
-      if length (offered writer) == 0 then one_answered writer (Reply 0 []) p
-      else if not manner.has_other_side then one_answered writer (Failed EPIPE) p
-      else if (length p.writers == 0) && fits offered p.bytes writer then first_answered writer (Reply (length (offered writer)) []) (settle wanted offered (record p { bytes = p.bytes ++ offered writer }))
-      else waiting_unless manner writer p (with_writer p writer)
+      told_or_waiting manner writer (write_ended p.device manner (offered writer)) (if_first p.writers (write_told wanted offered p.device p.bytes writer)) p (with_writer p writer)
 
   -- a READ: the pipe is cleaned first
   abbrev pub read : (W → Bool) → Manner → W → Pipe W → PipeAfter W
@@ -168,4 +179,4 @@ module _ {W : Type 0} where
 -- that no block is left for is ended; others may be served then
 abbrev pub release : {W : Type 0} → (W → ℕ) → (W → List ℕ) → (W → Bool) → (W → Bool) → Sides → Pipe W → PipeAfter W
 release wanted offered gone is_on_it sides p =
-    and_then (and_then (and_then (and_then (and_then (clean wanted offered gone p) (dismissed is_on_it (Failed EBADF))) (readers_ended sides)) (writers_ended sides)) (settle wanted offered)) (without_bytes sides)
+    and_then (and_then (and_then (and_then (and_then (clean wanted offered gone p) (dismissed is_on_it (Failed EBADF))) (readers_ended (sides_at p.device sides))) (writers_ended (sides_at p.device sides))) (settle wanted offered)) (without_bytes (sides_at p.device sides))

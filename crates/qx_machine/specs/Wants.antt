@@ -1,10 +1,10 @@
 -- Which steps may be refused for want of memory.
 use Rattle.std.specs.Prelude.{ℕ, ◌*◌, ◌/◌, ◌==◌, ◌||◌, not, Bool, true, false, List, [], Option, Result, Ok, Err, length, nat_lt}
 use Rattle.std.specs.List.{list_all, list_any, range_with_len}
-use Rattle.qx_types.specs.declared.errno.Errno.{Errno}
-use Rattle.qx_types.specs.declared.errno.Errno.TheVariants.{EBADF}
+use Rattle.qx_errno.specs.declared.Errno.{Errno}
+use Rattle.qx_errno.specs.declared.Errno.TheVariants.{EBADF}
 use Rattle.qx_types.specs.declared.names.Manager.{Manager}
-use Rattle.qx_types.specs.declared.names.Manager.TheVariants.{Ram, Pipe}
+use Rattle.qx_types.specs.declared.names.Manager.TheVariants.{Ram, Pipe, Device}
 use Rattle.qx_types.specs.declared.outcome.Outcome.TheVariants.{WrongState}
 use Rattle.qx_types.specs.declared.step.Step.{Step}
 use Rattle.qx_types.specs.declared.step.Step.TheVariants.{Spawn, Call, Mount, Perform}
@@ -71,6 +71,7 @@ got_events before after = nat_lt (event_count before.events) (event_count after.
 abbrev pub difference_wants_memory : Manager → Result Opened Errno → List ℕ → Resources → Resources → Bool
 difference_wants_memory Ram over bytes before after = writes_to_blank before over bytes || got_events before after
 difference_wants_memory Pipe over bytes before after = got_events before after
+difference_wants_memory (Device device) over bytes before after = got_events before after
 
 -- bytes with this meaning, which were sent so, may want memory
 abbrev pub bytes_want_memory : Resources → Context → Meaning → Bool

@@ -3,8 +3,8 @@
 //! The files of `specs/`, lowest first. `Rows.antt`, `Lines.antt`, `Judgements.antt` and `System.antt`, where to begin, are those of
 //! `qx_isolation`.
 //!
-//! - `Attributes.antt`, `Inodes.antt`, `Names.antt`, `Listings.antt`, `Files.antt`, `Pipes.antt`, `Waiting.antt`,
-//!   `Resources.antt`: what the managers keep for a user
+//! - `Attributes.antt`, `Inodes.antt`, `Names.antt`, `Listings.antt`, `Files.antt`, `Verdicts.antt`, `Pipes.antt`,
+//!   `Waiting.antt`, `Resources.antt`: what the managers keep for a user
 //! - `Events.antt`: the armed events and untaken pulses of a user; `Notification.antt`: which conditions hold of what is
 //!   open, and what a notification does
 //! - `Servers.antt`, `Processes.antt`: processes; `Parts.antt`: all rows of a user, and what a step changes in the lines

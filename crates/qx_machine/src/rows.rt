@@ -1,6 +1,6 @@
 use qx_isolation::ServerName;
 use qx_paths::Path;
-use qx_types::{Answer, Coid, Conds, Errno, Manager, MessageBytes, OFlags, Prio};
+use qx_types::{Answer, Coid, Conds, Device, Errno, Manager, MessageBytes, OFlags, Prio};
 use qx_wire::{BorrowedBytes, Message};
 
 /// What a call sends (C Library Reference: `MsgSend`): a message of the table, or bytes as they are.
@@ -183,6 +183,7 @@ pub enum Kind {
     File,
     Directory,
     Pipe,
+    Device(Device),
 }
 
 /// The attribute of an inode (Writing a Resource Manager: `iofunc_attr_t`).

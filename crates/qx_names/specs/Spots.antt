@@ -1,6 +1,6 @@
 -- Where a walk ends.
 use Rattle.std.specs.Prelude.{Result, Ok, Err}
-use Rattle.qx_types.specs.declared.errno.Errno.{Errno}
+use Rattle.qx_errno.specs.declared.Errno.{Errno}
 use Rattle.qx_machine.specs.Names as machine
 use Rattle.qx_names.specs.Paths.{path_of}
 use Rattle.qx_names.specs.declared.spot.Spot.{Spot}

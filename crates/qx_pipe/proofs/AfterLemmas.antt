@@ -4,19 +4,18 @@ use Rattle.std.specs.Prelude.{filter}
 use Rattle.std.proofs.lemmas.Bool.{cond_both, false≢true}
 use Rattle.std.proofs.lemmas.List.{map-append, set-get_or, set-set}
 use Rattle.std.proofs.lemmas.List.Folds.{list_any-append}
-use Rattle.qx_types.specs.declared.errno.Errno.{Errno}
-use Rattle.qx_types.specs.declared.errno.Errno.TheVariants.{EPIPE}
+use Rattle.qx_errno.specs.declared.Errno.{Errno}
+use Rattle.qx_errno.specs.declared.Errno.TheVariants.{EPIPE}
 use Rattle.qx_types.specs.declared.limits.TheConstants.Limits.{INODES}
 use Rattle.qx_types.specs.declared.outcome.Answer.{Answer}
 use Rattle.qx_types.specs.declared.outcome.Answer.TheVariants.{Failed, Reply}
 use Rattle.qx_machine.specs.declared.rows.Sides.{Sides}
 use Rattle.qx_machine.specs.declared.rows.WaitingCall.{WaitingCall}
 use Rattle.qx_machine.specs.Waiting.{Pipes, is_written, no_pipes}
-use Rattle.qx_machine.specs.Pipes.{PipeAfter, Pipe, all_answered, and_then, dismissed, nobody_answered, one_answered, pipe_of, readers_ended, writers_ended}
+use Rattle.qx_machine.specs.Pipes.{PipeAfter, Pipe, all_answered, and_then, dismissed, nobody_answered, one_answered, readers_ended, writers_ended}
 use Rattle.qx_isolation.specs.Rows.{row_at}
 use Rattle.qx_isolation.proofs.Places.{set-row_at}
 use Rattle.qx_shared.specs.Shared.{HasPipe, Shared, pipe_at, pipes_of, users_given, went_in, with_pipe_after, with_answer_to}
-use Rattle.qx_pipe.specs.inner.Turns.{NobodyWaits}
 
 -- ---- no bytes go in with these answers
 
@@ -97,12 +96,17 @@ module _ (c : Shared) (user inode : ℕ) (has : HasPipe c user inode) where
     pub nothing-went : false ≡ went_in after.answers
     nothing-went = sym (ap (λ a. went_in a.answers) is)
 
-  pub alone-after : (after : PipeAfter WaitingCall) (now : Shared) → now ≡ with_pipe_after c user inode after → NobodyWaits after.pipe → NobodyWaits (pipe_at now user inode)
-  alone-after after now is nobody = subst NobodyWaits (sym (ap (λ s. pipe_at s user inode) is ∙ ap (λ o. unwrap_or o (pipe_of [] [] [])) (row_at-with_row c.pipes user inode has after.pipe))) nobody
-
   -- a call that is answered alone leaves the pipe
   pub with_answer_to-after : (call : WaitingCall) (answer : Answer) → with_answer_to c user call answer ≡ with_pipe_after c user inode (one_answered call answer (pipe_at c user inode))
   with_answer_to-after call answer = λ i. record c { pipes = (sym with_after-nobody i).pipes; answered = c.answered ++ users_given user (call, answer) ∷ [] }
+
+  -- a call is answered, once other bytes stand
+  pub answered-after : (p : Pipe WaitingCall) (call : WaitingCall) (answer : Answer) → with_answer_to (with_pipe_after c user inode (nobody_answered p)) user call answer ≡ with_pipe_after c user inode (one_answered call answer p)
+  answered-after p call answer = λ i. record (with_pipe_after c user inode (nobody_answered p)) { answered = append-nil c.answered i ++ users_given user (call, answer) ∷ [] }
+
+  -- the same bytes stand
+  pub same-bytes : (now : Shared) (bytes : List ℕ) → now ≡ with_pipe_after c user inode (nobody_answered (record (pipe_at c user inode) { bytes = bytes })) → bytes ≡ (pipe_at c user inode).bytes → now ≡ c
+  same-bytes now bytes is same = is ∙ ap (λ bytes. with_pipe_after c user inode (nobody_answered (record (pipe_at c user inode) { bytes = bytes }))) same ∙ with_after-nobody
 
 -- what follows a call is done with the pipe as it is then
 pub ruleset steps = (row_at-with_row, with_row-twice, with_after-nobody, with_answer_to-after, map-append, append_assoc, list_any-append)

@@ -11,14 +11,14 @@ use Rattle.std.proofs.lemmas.List.Sums.{sum_by-append, sum_by-cons}
 use Rattle.qx_types.specs.declared.names.Thread.{Thread}
 use Rattle.qx_machine.specs.declared.rows.WaitingCall.{WaitingCall}
 use Rattle.qx_machine.specs.Waiting.{Pipes, is_gone, no_pipes, offered, wanted}
-use Rattle.qx_machine.specs.Pipes.{PipeAfter, Pipe, clean, pipe_of, removed}
+use Rattle.qx_machine.specs.Pipes.{PipeAfter, Pipe, clean, nobody_answered, pipe_of, removed}
 use Rattle.qx_isolation.specs.Rows.{row_at}
 use Rattle.qx_queues.specs.Queues.{caller, has_call, is_same_thread}
 use Rattle.qx_queues.specs.Waits.{users_call}
 use Rattle.qx_shared.specs.Shared.{HasNoCall, HasPipe, IsCallReceived, Shared, calls_at, pipe_at, pipes_of, users_given, waiting_calls, with_pipe_after}
 use Rattle.qx_pipe.specs.Laws.{answers_to, waiting_of}
 use Rattle.qx_pipe.proofs.AfterLemmas.{get_or-set}
-use Rattle.qx_pipe.proofs.CallLemmas.{counted-settle}
+use Rattle.qx_pipe.proofs.LawLemmas.{counted-settle}
 
 -- none among them, by a test and by a count
 module _ {A B : Type 0} (f : A → B) (test : B → Bool) where
@@ -63,10 +63,10 @@ module _ (c : Shared) (user inode : ℕ) (has : HasPipe c user inode) (after : P
     none-waits_in = none-count (users_call user) (λ own. is_same_thread (caller own) thread) (waiting_calls (pipes_of c user)) (none.waiting user)
 
     none-waits_at : waiting_of is_own (pipe_at c user inode) ≡ 0
-    none-waits_at = omega (arith, none-waits_in, waiting-with_pipe is_own (pipes_of c user) inode (pipe_of [] [] []) (pipe_of [] [] []) has)
+    none-waits_at = omega (arith, none-waits_in, waiting-with_pipe is_own (pipes_of c user) inode (pipe_of None [] [] []) (pipe_of None [] [] []) has)
 
     none-waits_after : count_by is_own (waiting_calls (slice_set (pipes_of c user) inode (Some after.pipe))) ≡ 0
-    none-waits_after = omega (arith, none-waits_in, none-waits_at, less.lessens is_own, waiting-with_pipe is_own (pipes_of c user) inode after.pipe (pipe_of [] [] []) has)
+    none-waits_after = omega (arith, none-waits_in, none-waits_at, less.lessens is_own, waiting-with_pipe is_own (pipes_of c user) inode after.pipe (pipe_of None [] [] []) has)
 
     no_call-after : HasNoCall (with_pipe_after c user inode after) thread
     no_call-after = record {
@@ -92,3 +92,8 @@ module _ (c now : Shared) (user inode : ℕ) (has : HasPipe c user inode) (is : 
 
   pub received-clean : (call : WaitingCall) → IsCallReceived c user call → IsCallReceived now user call
   received-clean call received = subst (λ shared. IsCallReceived shared user call) (sym is) (received-after c user inode has _ clean-lessens call received)
+
+-- other bytes stand
+module _ (c now : Shared) (user inode : ℕ) (has : HasPipe c user inode) (bytes : List ℕ) (is : now ≡ with_pipe_after c user inode (nobody_answered (record (pipe_at c user inode) { bytes = bytes }))) where
+  pub received-bytes : (call : WaitingCall) → IsCallReceived c user call → IsCallReceived now user call
+  received-bytes call received = subst (λ shared. IsCallReceived shared user call) (sym is) (received-after c user inode has (nobody_answered (record (pipe_at c user inode) { bytes = bytes })) (record { lessens = λ which. omega arith }) call received)

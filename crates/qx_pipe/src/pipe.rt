@@ -1,23 +1,36 @@
-//! What is done to one pipe, under the number of an inode of a user. Each call tells whether bytes went in.
+//! What is done to one pipe or device, under the number of an inode of a user. Each call tells whether bytes went in. A
+//! device of an author's own is served as a pipe is, in all but what a call comes to by the bytes that stand; whose row it
+//! is is looked up once, and handed on.
 #![tactic(auto, using(crate::proofs::AfterLemmas::steps))]
 
-ghost use Rattle.std.specs.Prelude.{◌≡◌, ◌==◌, ◌<◌, ◌≤◌, [], IfNone, IfSome, IsFalse, IsTrue, false, length, not};
+ghost use Rattle.std.specs.Prelude.{◌≡◌, ◌==◌, ◌<◌, ◌≤◌, [], None, Some, IfErr, IfNone, IfOk, IfSome, IsFalse, IsTrue, OnErr, false, if◌then◌else◌, length, not};
 ghost use Rattle.qx_machine.specs.Waiting.{is_call, is_gone, offered, waiting_call, wanted};
 ghost use Rattle.qx_machine.specs.Pipes as machine;
-ghost use Rattle.qx_machine.specs.Pipes.{clean_read, clean_write, dismissed, nobody_answered, one_answered, readers_ended, without_bytes, writers_ended};
+ghost use Rattle.qx_machine.specs.Pipes.{clean_read, clean_write, dismissed, nobody_answered, one_answered, read_told, readers_ended, without_bytes, write_told, writers_ended};
+ghost use Rattle.qx_machine.specs.Verdicts as verdicts;
+ghost use Rattle.qx_machine.specs.Verdicts.{read_ended};
 ghost use Rattle.qx_machine.specs.declared.rows.Opened.{Opened as AnyOpened};
 ghost use Rattle.qx_pipe.specs.Alone.{is_idle, is_one_reply};
-ghost use Rattle.qx_pipe.specs.inner.Turns.{NobodyWaits, Turning, settling, unless_served, waiting_count};
+ghost use Rattle.qx_pipe.specs.inner.Turns.{NobodyWaits, Served, Turning, settling, status_given, unless_served, waiting_count};
 ghost use Rattle.qx_queues.specs.Waits.{leaves};
-ghost use Rattle.qx_shared.specs.Shared.{HasPipe, IsCallReceived, pipe_at, went_in, with_pipe_after};
-ghost use Rattle.qx_types.specs.declared.limits.TheConstants.Limits.{BODY};
+ghost use Rattle.qx_shared.specs.Shared.{HasPipe, IsCallReceived, pipe_at, waiting_on, went_in, with_pipe_after};
+ghost use Rattle.qx_shared.specs.declared.side.Side.TheVariants.{Writing};
+ghost use Rattle.qx_types.specs.declared.limits.TheConstants.Limits.{TRANSFER};
 ghost use Rattle.qx_types.specs.declared.outcome.Answer.TheVariants.{Failed, Reply as TheReply};
 
+use qx_device::Told;
 use qx_machine::{Manner, Opened, Sides};
 use qx_process::{Reply, Room};
 use qx_queues::{Leaving, PipeCall};
 use qx_shared::{Shared, Side};
-use qx_types::{Errno, Limits, User};
+use qx_types::{Device, Errno, Limits, User};
+
+/// A call that is told its reply at once: with this status, and so many bytes stand then.
+#[derive(Drop)]
+pub struct AtOnce {
+    pub status: u64,
+    pub size: usize,
+}
 
 /// Answers those who wait, as long as the first reader or the first writer can be served.
 pub fn settle(shared: &mut Shared, user: User, inode: u32) -> bool
@@ -25,11 +38,8 @@ pub fn settle(shared: &mut Shared, user: User, inode: u32) -> bool
     ensures after { shared.new ≡ with_pipe_after shared.old user.0 inode (machine.settle wanted offered (pipe_at shared.old user.0 inode)) }
     ensures filled { result ≡ went_in (machine.settle wanted offered (pipe_at shared.old user.0 inode)).answers }
 {
-    let mut filled = false;
-    'turns: while let Some(more) = turn(shared, user, inode) {
-        filled |= more;
-    }
-    filled
+    let device = shared.device(user, inode);
+    settle_of(shared, user, inode, device)
 }
 
 /// Takes out the waiting calls of ended processes, and answers those who can be served then.
@@ -38,8 +48,8 @@ pub fn clean(shared: &mut Shared, user: User, inode: u32) -> bool
     ensures after { shared.new ≡ with_pipe_after shared.old user.0 inode (machine.clean wanted offered is_gone (pipe_at shared.old user.0 inode)) }
     ensures filled { result ≡ went_in (machine.clean wanted offered is_gone (pipe_at shared.old user.0 inode)).answers }
 {
-    shared.take_out(user, inode, Leaving::Gone);
-    settle(shared, user, inode)
+    let device = shared.device(user, inode);
+    clean_of(shared, user, inode, device)
 }
 
 /// A READ of a call whose message was received: cleans the pipe, and then the call is answered or waits (C Library Reference:
@@ -50,9 +60,10 @@ pub fn read(shared: &mut Shared, user: User, inode: u32, call: PipeCall, manner:
     ensures after { shared.new ≡ with_pipe_after shared.old user.0 inode (machine.read wanted offered is_gone manner call (pipe_at shared.old user.0 inode)) }
     ensures filled { result ≡ went_in (machine.read wanted offered is_gone manner call (pipe_at shared.old user.0 inode)).answers }
 {
+    let device = shared.device(user, inode);
     let others = anyone_waits(shared, user, inode);
-    let before = clean_others(shared, user, inode, others);
-    let own = read_clean(shared, user, inode, call, manner, others);
+    let before = clean_others(shared, user, inode, device, others);
+    let own = read_clean(shared, user, inode, device, call, manner, others);
     before | own
 }
 
@@ -69,13 +80,16 @@ pub fn write(
 ) -> bool
     requires pipe { HasPipe shared.old user.0 inode }
     requires received { IsCallReceived shared.old user.0 (waiting_call opened 0 bytes.now) }
-    requires few { length bytes.now ≤ BODY }
+    requires few { length bytes.now ≤ TRANSFER }
     ensures after { shared.new ≡ with_pipe_after shared.old user.0 inode (machine.write wanted offered is_gone manner (waiting_call opened 0 bytes.now) (pipe_at shared.old user.0 inode)) }
     ensures filled { result ≡ went_in (machine.write wanted offered is_gone manner (waiting_call opened 0 bytes.now) (pipe_at shared.old user.0 inode)).answers }
 {
+    let device = shared.device(user, inode);
     let others = anyone_waits(shared, user, inode);
-    let before = clean_others(shared, user, inode, others);
-    let own = write_clean(shared, user, inode, opened, bytes, room, manner, others);
+    let before = clean_others(shared, user, inode, device, others);
+    let own = write_clean(
+        shared, user, inode, device, opened, bytes, room, manner, others,
+    );
     before | own
 }
 
@@ -88,12 +102,13 @@ pub fn read_alone(
     count: u32,
     manner: Manner,
     reply: &mut Reply,
-) -> Option<u64>
+) -> Option<AtOnce>
     requires pipe { HasPipe shared.old user.0 inode }
     requires empty { reply.old ≡ [] }
-    ensures idle { IfSome result (λ status. IsTrue (is_idle (pipe_at shared.old user.0 inode))) }
-    ensures told { IfSome result (λ status. (opened : AnyOpened) → machine.read wanted offered is_gone manner (waiting_call opened count []) (pipe_at shared.old user.0 inode) ≡ one_answered (waiting_call opened count []) (TheReply status reply.new) (pipe_at shared.new user.0 inode)) }
-    ensures left { IfSome result (λ status. shared.new ≡ with_pipe_after shared.old user.0 inode (nobody_answered (pipe_at shared.new user.0 inode))) }
+    ensures idle { IfSome result (λ told. IsTrue (is_idle (pipe_at shared.old user.0 inode))) }
+    ensures told { IfSome result (λ told. (opened : AnyOpened) → machine.read wanted offered is_gone manner (waiting_call opened count []) (pipe_at shared.old user.0 inode) ≡ one_answered (waiting_call opened count []) (TheReply told.status reply.new) (pipe_at shared.new user.0 inode)) }
+    ensures size { IfSome result (λ told. told.size ≡ length (pipe_at shared.new user.0 inode).bytes) }
+    ensures left { IfSome result (λ told. shared.new ≡ with_pipe_after shared.old user.0 inode (nobody_answered (pipe_at shared.new user.0 inode))) }
     ensures otherwise { IfNone result (IsTrue (is_idle (pipe_at shared.old user.0 inode)) → (opened : AnyOpened) → is_one_reply (machine.read wanted offered is_gone manner (waiting_call opened count []) (pipe_at shared.old user.0 inode)).answers ≡ false) }
     ensures same { IfNone result (shared.new ≡ shared.old) }
     ensures unused { IfNone result (reply.new ≡ []) }
@@ -101,22 +116,30 @@ pub fn read_alone(
     if anyone_waits(shared, user, inode) {
         return None;
     }
-    if count == 0 {
-        return Some(0);
+    if shared.device(user, inode).is_some() {
+        let status = gives(shared.read_device(user, inode, count, reply))?;
+        let size = shared.pipe_len(user, inode);
+        return Some(AtOnce { status, size });
     }
-    let len = shared.pipe_len(user, inode);
-    if len != 0 {
-        let count = (count as usize).min(len);
+    let size = shared.pipe_len(user, inode);
+    if count == 0 {
+        return Some(AtOnce { status: 0, size });
+    }
+    if size != 0 {
+        let count = (count as usize).min(size);
         let (first, second) = shared.front(user, inode, count);
         reply.push(first);
         reply.push(second);
         shared.drop_front(user, inode, count);
-        return Some(count as u64);
+        return Some(AtOnce {
+            status: count as u64,
+            size: size - count,
+        });
     }
     if manner.has_other_side {
         return None;
     }
-    Some(0)
+    Some(AtOnce { status: 0, size })
 }
 
 /// A WRITE of a call that is told its reply at once, where nobody waits in the pipe and it is answered with a reply, which
@@ -127,30 +150,40 @@ pub fn write_alone(
     inode: u32,
     bytes: &[u8],
     manner: Manner,
-) -> Option<u64>
+) -> Option<AtOnce>
     requires pipe { HasPipe shared.old user.0 inode }
-    ensures idle { IfSome result (λ status. IsTrue (is_idle (pipe_at shared.old user.0 inode))) }
-    ensures count { IfSome result (λ status. status ≡ length bytes.now) }
-    ensures told { IfSome result (λ status. (opened : AnyOpened) → machine.write wanted offered is_gone manner (waiting_call opened 0 bytes.now) (pipe_at shared.old user.0 inode) ≡ one_answered (waiting_call opened 0 bytes.now) (TheReply status []) (pipe_at shared.new user.0 inode)) }
-    ensures left { IfSome result (λ status. shared.new ≡ with_pipe_after shared.old user.0 inode (nobody_answered (pipe_at shared.new user.0 inode))) }
+    requires few { length bytes.now ≤ TRANSFER }
+    ensures idle { IfSome result (λ told. IsTrue (is_idle (pipe_at shared.old user.0 inode))) }
+    ensures told { IfSome result (λ told. (opened : AnyOpened) → machine.write wanted offered is_gone manner (waiting_call opened 0 bytes.now) (pipe_at shared.old user.0 inode) ≡ one_answered (waiting_call opened 0 bytes.now) (TheReply told.status []) (pipe_at shared.new user.0 inode)) }
+    ensures size { IfSome result (λ told. told.size ≡ length (pipe_at shared.new user.0 inode).bytes) }
+    ensures left { IfSome result (λ told. shared.new ≡ with_pipe_after shared.old user.0 inode (nobody_answered (pipe_at shared.new user.0 inode))) }
     ensures otherwise { IfNone result (IsTrue (is_idle (pipe_at shared.old user.0 inode)) → (opened : AnyOpened) → is_one_reply (machine.write wanted offered is_gone manner (waiting_call opened 0 bytes.now) (pipe_at shared.old user.0 inode)).answers ≡ false) }
     ensures same { IfNone result (shared.new ≡ shared.old) }
 {
     if anyone_waits(shared, user, inode) {
         return None;
     }
+    if shared.device(user, inode).is_some() {
+        let status = gives(shared.write_device(user, inode, bytes))?;
+        let size = shared.pipe_len(user, inode);
+        return Some(AtOnce { status, size });
+    }
     let len = bytes.len();
+    let size = shared.pipe_len(user, inode);
     if len == 0 {
-        return Some(0);
+        return Some(AtOnce { status: 0, size });
     }
     if !manner.has_other_side {
         return None;
     }
-    if len > Limits::PIPE - shared.pipe_len(user, inode) {
+    if len > Limits::PIPE - size {
         return None;
     }
     shared.append(user, inode, bytes);
-    Some(len as u64)
+    Some(AtOnce {
+        status: len as u64,
+        size: size + len,
+    })
 }
 
 /// An unblock of a call of a thread: the pipe is cleaned; if the call waits then, it is answered EINTR, and others may be
@@ -186,6 +219,7 @@ pub fn release(shared: &mut Shared, user: User, inode: u32, block: u16, sides: S
     ensures after { shared.new ≡ with_pipe_after shared.old user.0 inode (machine.release wanted offered is_gone (λ call. call.block == block) sides (pipe_at shared.old user.0 inode)) }
     ensures filled { result ≡ went_in (machine.release wanted offered is_gone (λ call. call.block == block) sides (pipe_at shared.old user.0 inode)).answers }
 {
+    let sides = sides_at(shared.device(user, inode), sides);
     let before = clean(shared, user, inode);
     dismiss(shared, user, inode, Leaving::Block(block), Errno::EBADF);
     end_readers(shared, user, inode, sides);
@@ -195,14 +229,46 @@ pub fn release(shared: &mut Shared, user: User, inode: u32, block: u16, sides: S
     before | after
 }
 
-// Answers the first one that can be served, if there is one, and tells whether bytes went in.
-fn turn(shared: &mut Shared, user: User, inode: u32) -> Option<bool>
+// Settles a pipe, or a device, which is that one.
+fn settle_of(shared: &mut Shared, user: User, inode: u32, device: Option<Device>) -> bool
     requires pipe { HasPipe shared.old user.0 inode }
+    requires device { device ≡ (pipe_at shared.old user.0 inode).device }
+    ensures after { shared.new ≡ with_pipe_after shared.old user.0 inode (machine.settle wanted offered (pipe_at shared.old user.0 inode)) }
+    ensures filled { result ≡ went_in (machine.settle wanted offered (pipe_at shared.old user.0 inode)).answers }
+{
+    let mut filled = false;
+    'turns: while let Some(more) = turn(shared, user, inode, device) {
+        filled |= more;
+    }
+    filled
+}
+
+// Cleans a pipe, or a device, which is that one.
+fn clean_of(shared: &mut Shared, user: User, inode: u32, device: Option<Device>) -> bool
+    requires pipe { HasPipe shared.old user.0 inode }
+    requires device { device ≡ (pipe_at shared.old user.0 inode).device }
+    ensures after { shared.new ≡ with_pipe_after shared.old user.0 inode (machine.clean wanted offered is_gone (pipe_at shared.old user.0 inode)) }
+    ensures filled { result ≡ went_in (machine.clean wanted offered is_gone (pipe_at shared.old user.0 inode)).answers }
+{
+    shared.take_out(user, inode, Leaving::Gone);
+    settle_of(shared, user, inode, device)
+}
+
+// Answers the first one that can be served, if there is one, and tells whether bytes went in.
+fn turn(shared: &mut Shared, user: User, inode: u32, device: Option<Device>) -> Option<bool>
+    requires pipe { HasPipe shared.old user.0 inode }
+    requires device { device ≡ (pipe_at shared.old user.0 inode).device }
     ensures turned { IfSome result (λ more. Turning shared.old shared.new user.0 inode more) }
     ensures fewer { IfSome result (λ more. waiting_count (pipe_at shared.new user.0 inode) < waiting_count (pipe_at shared.old user.0 inode)) }
     ensures rested { IfNone result (settling shared.old user.0 inode ≡ nobody_answered (pipe_at shared.old user.0 inode)) }
     ensures same { IfNone result (shared.new ≡ shared.old) }
 {
+    if device.is_some() {
+        if let Some(more) = shared.serve_first(user, inode, Side::Reading) {
+            return Some(more);
+        }
+        return shared.serve_first(user, inode, Side::Writing);
+    }
     let stand = shared.pipe_len(user, inode);
     if stand != 0 {
         if let Some(reader) = shared.first_waiting(user, inode, Side::Reading) {
@@ -217,6 +283,29 @@ fn turn(shared: &mut Shared, user: User, inode: u32) -> Option<bool>
     Some(shared.take_bytes(user, inode))
 }
 
+// The status of a reply that a call to a device is told; None where it waits or gets an error.
+fn gives(told: Told) -> Option<u64>
+    ensures { result ≡ status_given told }
+{
+    match told {
+        Told::Gives(status) => Some(status),
+        Told::Waits | Told::Fails(_) => None,
+    }
+}
+
+// For which sides a pipe is there that has open control blocks for these; a device is there for both.
+fn sides_at(device: Option<Device>, sides: Sides) -> Sides
+    ensures { result ≡ verdicts.sides_at device sides }
+{
+    match device {
+        None => sides,
+        Some(_) => Sides {
+            for_reading: true,
+            for_writing: true,
+        },
+    }
+}
+
 // Whether a call waits in a pipe. Where none does, there is nobody to take out or to serve.
 fn anyone_waits(shared: &Shared, user: User, inode: u32) -> bool
     ensures alone { IsFalse result → NobodyWaits (pipe_at shared.now user.0 inode) }
@@ -227,24 +316,39 @@ fn anyone_waits(shared: &Shared, user: User, inode: u32) -> bool
 }
 
 // Cleans a pipe, if others may wait there.
-fn clean_others(shared: &mut Shared, user: User, inode: u32, others: bool) -> bool
+fn clean_others(
+    shared: &mut Shared,
+    user: User,
+    inode: u32,
+    device: Option<Device>,
+    others: bool,
+) -> bool
     requires pipe { HasPipe shared.old user.0 inode }
+    requires device { device ≡ (pipe_at shared.old user.0 inode).device }
     requires alone { IsFalse others → NobodyWaits (pipe_at shared.old user.0 inode) }
     ensures after { shared.new ≡ with_pipe_after shared.old user.0 inode (machine.clean wanted offered is_gone (pipe_at shared.old user.0 inode)) }
     ensures filled { result ≡ went_in (machine.clean wanted offered is_gone (pipe_at shared.old user.0 inode)).answers }
+    ensures device { device ≡ (pipe_at shared.new user.0 inode).device }
     ensures same { IsFalse others → shared.new ≡ shared.old }
 {
-    others && clean(shared, user, inode)
+    others && clean_of(shared, user, inode, device)
 }
 
 // Settles a pipe, if others may wait there.
-fn settle_others(shared: &mut Shared, user: User, inode: u32, others: bool) -> bool
+fn settle_others(
+    shared: &mut Shared,
+    user: User,
+    inode: u32,
+    device: Option<Device>,
+    others: bool,
+) -> bool
     requires pipe { HasPipe shared.old user.0 inode }
+    requires device { device ≡ (pipe_at shared.old user.0 inode).device }
     requires alone { IsFalse others → NobodyWaits (pipe_at shared.old user.0 inode) }
     ensures after { shared.new ≡ with_pipe_after shared.old user.0 inode (machine.settle wanted offered (pipe_at shared.old user.0 inode)) }
     ensures filled { result ≡ went_in (machine.settle wanted offered (pipe_at shared.old user.0 inode)).answers }
 {
-    others && settle(shared, user, inode)
+    others && settle_of(shared, user, inode, device)
 }
 
 // A READ, once the pipe is clean; others may wait there.
@@ -252,37 +356,80 @@ fn read_clean(
     shared: &mut Shared,
     user: User,
     inode: u32,
+    device: Option<Device>,
     call: PipeCall,
     manner: Manner,
     others: bool,
 ) -> bool
     requires pipe { HasPipe shared.old user.0 inode }
+    requires device { device ≡ (pipe_at shared.old user.0 inode).device }
     requires received { IsCallReceived shared.old user.0 call }
     requires alone { IsFalse others → NobodyWaits (pipe_at shared.old user.0 inode) }
     ensures after { shared.new ≡ with_pipe_after shared.old user.0 inode (clean_read wanted offered manner call (pipe_at shared.old user.0 inode)) }
     ensures filled { result ≡ went_in (clean_read wanted offered manner call (pipe_at shared.old user.0 inode)).answers }
 {
-    let wanted = call.wanted() as usize;
-    let len = shared.pipe_len(user, inode);
-    if wanted == 0 {
-        shared.answer(user, call, Ok((0, &[])))
-    } else if len != 0 {
-        let own = shared.hand_bytes(user, inode, call, wanted.min(len));
-        let after = settle_others(shared, user, inode, others);
-        own | after
-    } else if !manner.has_other_side {
-        shared.answer(user, call, Ok((0, &[])))
-    } else {
-        wait_unless(shared, user, inode, Side::Reading, call, manner)
+    if is_read_ended(shared, user, inode, device, call.wanted(), manner) {
+        return shared.answer(user, call, Ok((0, &[])));
+    }
+    if !is_first(shared, user, inode, Side::Reading, others) {
+        return wait_unless(shared, user, inode, Side::Reading, call, manner);
+    }
+    match serve_read(shared, user, inode, device, call) {
+        Ok(own) => {
+            let after = settle_others(shared, user, inode, device, others);
+            own | after
+        }
+        Err(call) => wait_unless(shared, user, inode, Side::Reading, call, manner),
     }
 }
 
-// Whether a WRITE would be the first in a pipe.
-fn is_first(shared: &Shared, user: User, inode: u32, others: bool) -> bool
-    requires alone { IsFalse others → NobodyWaits (pipe_at shared.now user.0 inode) }
-    ensures first { result ≡ (length (pipe_at shared.now user.0 inode).writers == 0) }
+// Whether a READ is told at a pipe, whoever waits there, that it is done or has come to the end.
+fn is_read_ended(
+    shared: &Shared,
+    user: User,
+    inode: u32,
+    device: Option<Device>,
+    count: u32,
+    manner: Manner,
+) -> bool
+    requires device { device ≡ (pipe_at shared.now user.0 inode).device }
+    ensures ended { read_ended (pipe_at shared.now user.0 inode).device manner count (pipe_at shared.now user.0 inode).bytes ≡ (if result then Some (TheReply 0 []) else None) }
 {
-    !others || shared.first_waiting(user, inode, Side::Writing).is_none()
+    device.is_none()
+        && (count == 0 || (!manner.has_other_side && shared.pipe_len(user, inode) == 0))
+}
+
+// A READ before which no reader waits is answered by the bytes that stand, or comes back.
+fn serve_read(
+    shared: &mut Shared,
+    user: User,
+    inode: u32,
+    device: Option<Device>,
+    call: PipeCall,
+) -> Result<bool, PipeCall>
+    requires pipe { HasPipe shared.old user.0 inode }
+    requires device { device ≡ (pipe_at shared.old user.0 inode).device }
+    requires received { IsCallReceived shared.old user.0 call }
+    ensures served { IfOk result (λ more. Served shared.old shared.new user.0 inode call (read_told wanted offered (pipe_at shared.old user.0 inode).device (pipe_at shared.old user.0 inode).bytes call) more) }
+    ensures waits { IfErr result (λ back. (back ≡ call) × (read_told wanted offered (pipe_at shared.old user.0 inode).device (pipe_at shared.old user.0 inode).bytes call ≡ None) × (shared.new ≡ shared.old)) }
+{
+    if device.is_some() {
+        return shared.serve_read(user, inode, call);
+    }
+    let len = shared.pipe_len(user, inode);
+    if len == 0 {
+        return Err(call);
+    }
+    let count = (call.wanted() as usize).min(len);
+    Ok(shared.hand_bytes(user, inode, call, count))
+}
+
+// Whether a call would be the first on a side.
+fn is_first(shared: &Shared, user: User, inode: u32, side: Side, others: bool) -> bool
+    requires alone { IsFalse others → NobodyWaits (pipe_at shared.now user.0 inode) }
+    ensures first { result ≡ (length (waiting_on side (pipe_at shared.now user.0 inode)) == 0) }
+{
+    !others || shared.first_waiting(user, inode, side).is_none()
 }
 
 // A WRITE, once the pipe is clean; others may wait there.
@@ -290,38 +437,97 @@ fn write_clean(
     shared: &mut Shared,
     user: User,
     inode: u32,
+    device: Option<Device>,
     opened: Opened,
     bytes: &[u8],
-    mut room: Room,
+    room: Room,
     manner: Manner,
     others: bool,
 ) -> bool
     requires pipe { HasPipe shared.old user.0 inode }
+    requires device { device ≡ (pipe_at shared.old user.0 inode).device }
     requires received { IsCallReceived shared.old user.0 (waiting_call opened 0 bytes.now) }
-    requires few { length bytes.now ≤ BODY }
+    requires few { length bytes.now ≤ TRANSFER }
     requires alone { IsFalse others → NobodyWaits (pipe_at shared.old user.0 inode) }
     ensures after { shared.new ≡ with_pipe_after shared.old user.0 inode (clean_write wanted offered manner (waiting_call opened 0 bytes.now) (pipe_at shared.old user.0 inode)) }
     ensures filled { result ≡ went_in (clean_write wanted offered manner (waiting_call opened 0 bytes.now) (pipe_at shared.old user.0 inode)).answers }
 {
-    let len = bytes.len();
-    if len == 0 {
-        return shared.answer(user, PipeCall::writing(opened, room), Ok((0, &[])));
+    if device.is_none() {
+        if bytes.is_empty() {
+            return shared.answer(user, PipeCall::writing(opened, room), Ok((0, &[])));
+        }
+        if !manner.has_other_side {
+            let call = PipeCall::writing(opened, room);
+            return shared.answer(user, call, Err(Errno::EPIPE));
+        }
     }
-    if !manner.has_other_side {
-        let call = PipeCall::writing(opened, room);
-        return shared.answer(user, call, Err(Errno::EPIPE));
+    if !is_first(shared, user, inode, Side::Writing, others) {
+        return write_later(shared, user, inode, opened, bytes, room, manner);
     }
-    let is_first = is_first(shared, user, inode, others);
-    if is_first && len <= Limits::PIPE - shared.pipe_len(user, inode) {
-        let call = PipeCall::writing(opened, room);
-        let own = shared.put_bytes(user, inode, call, bytes);
-        let after = settle_others(shared, user, inode, others);
-        own | after
-    } else {
-        room.keep(bytes);
-        let call = PipeCall::writing(opened, room);
-        wait_unless(shared, user, inode, Side::Writing, call, manner)
+    match serve_write(shared, user, inode, device, opened, bytes, room) {
+        Ok(own) => {
+            let after = settle_others(shared, user, inode, device, others);
+            own | after
+        }
+        Err(room) => write_later(shared, user, inode, opened, bytes, room, manner),
     }
+}
+
+// A WRITE before which no writer waits is answered by the bytes that stand, or its room comes back.
+fn serve_write(
+    shared: &mut Shared,
+    user: User,
+    inode: u32,
+    device: Option<Device>,
+    opened: Opened,
+    bytes: &[u8],
+    room: Room,
+) -> Result<bool, Room>
+    requires pipe { HasPipe shared.old user.0 inode }
+    requires device { device ≡ (pipe_at shared.old user.0 inode).device }
+    requires received { IsCallReceived shared.old user.0 (waiting_call opened 0 bytes.now) }
+    requires few { length bytes.now ≤ TRANSFER }
+    ensures served { IfOk result (λ more. Served shared.old shared.new user.0 inode (waiting_call opened 0 bytes.now) (write_told wanted offered (pipe_at shared.old user.0 inode).device (pipe_at shared.old user.0 inode).bytes (waiting_call opened 0 bytes.now)) more) }
+    ensures waits { OnErr result (write_told wanted offered (pipe_at shared.old user.0 inode).device (pipe_at shared.old user.0 inode).bytes (waiting_call opened 0 bytes.now) ≡ None) }
+    ensures same { OnErr result (shared.new ≡ shared.old) }
+{
+    if device.is_some() {
+        return match shared.write_device(user, inode, bytes) {
+            Told::Waits => Err(room),
+            Told::Gives(status) => {
+                shared.answer(user, PipeCall::writing(opened, room), Ok((status, &[])));
+                Ok(!bytes.is_empty() && status != 0)
+            }
+            Told::Fails(error) => {
+                Ok(shared.answer(user, PipeCall::writing(opened, room), Err(error)))
+            }
+        };
+    }
+    if bytes.len() > Limits::PIPE - shared.pipe_len(user, inode) {
+        return Err(room);
+    }
+    Ok(shared.put_bytes(user, inode, PipeCall::writing(opened, room), bytes))
+}
+
+// A WRITE that can't be served at once waits with a copy of its bytes in its room, unless it is not to wait.
+fn write_later(
+    shared: &mut Shared,
+    user: User,
+    inode: u32,
+    opened: Opened,
+    bytes: &[u8],
+    mut room: Room,
+    manner: Manner,
+) -> bool
+    requires pipe { HasPipe shared.old user.0 inode }
+    requires received { IsCallReceived shared.old user.0 (waiting_call opened 0 bytes.now) }
+    requires few { length bytes.now ≤ TRANSFER }
+    ensures after { shared.new ≡ with_pipe_after shared.old user.0 inode (unless_served Writing manner (waiting_call opened 0 bytes.now) (pipe_at shared.old user.0 inode)) }
+    ensures filled { result ≡ went_in (unless_served Writing manner (waiting_call opened 0 bytes.now) (pipe_at shared.old user.0 inode)).answers }
+{
+    room.set(bytes);
+    let call = PipeCall::writing(opened, room);
+    wait_unless(shared, user, inode, Side::Writing, call, manner)
 }
 
 // A call that can't be served at once waits, unless its block is NONBLOCK or it was asked to unblock.

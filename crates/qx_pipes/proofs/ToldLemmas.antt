@@ -1,7 +1,7 @@
 -- What a READ and a WRITE are told at once.
 use Rattle.std.proofs.Common.{◌≡◌, ℕ, ◌<◌, Bool, true, false, List, [], ◌∷◌, length, Option, None, Some, slice_set, Result, Ok, refl, sym, ap, ◌∙◌, subst}
 use Rattle.std.proofs.lemmas.Bool.{cond_both}
-use Rattle.std.specs.Prelude.{◌==◌, ◌&&◌, ◌||◌, if◌then◌else◌, not}
+use Rattle.std.specs.Prelude.{◌||◌, if◌then◌else◌}
 use Rattle.qx_iofunc.specs.Sizes.{sized}
 use Rattle.qx_iofunc.specs.Store.{Stored, with_stored}
 use Rattle.qx_machine.specs.declared.rows.Effect.TheVariants.{Keeps}
@@ -14,13 +14,13 @@ use Rattle.qx_machine.specs.PipeManager as machine
 use Rattle.qx_machine.specs.Pipes.{PipeAfter, nobody_answered, one_answered, read, write}
 use Rattle.qx_machine.specs.Resources.{Resources}
 use Rattle.qx_isolation.specs.Rows.{row_at}
-use Rattle.qx_machine.specs.Waiting.{is_gone, manner_of, offered, waiting_call, wanted}
+use Rattle.qx_machine.specs.Waiting.{is_gone, is_written, manner_of, offered, waiting_call, wanted}
 use Rattle.qx_pipe.specs.Alone.{is_idle, is_one_reply}
 use Rattle.qx_pipes.specs.Pipes.{Follows, seen}
 use Rattle.qx_pipes.specs.Told.{bytes_told, is_alone, pipe_of_block, pipe_over, replied_alone, status_told, told_alone}
 use Rattle.qx_pipes.proofs.PipesLemmas.{after-follows, follows, resized, there}
 use Rattle.qx_shared.specs.Shared.{HasPipe, Shared, pipe_at, pipes_of, went_in, with_pipe_after}
-use Rattle.qx_types.specs.declared.errno.Errno.{Errno}
+use Rattle.qx_errno.specs.declared.Errno.{Errno}
 use Rattle.qx_types.specs.declared.outcome.Answer.{Answer}
 use Rattle.qx_types.specs.declared.outcome.Answer.TheVariants.{Failed, Reply}
 
@@ -38,13 +38,13 @@ unreplied deed ((call, Failed error) ∷ []) none = refl
 unreplied deed ((call, Reply status bytes) ∷ (next ∷ rest)) none = refl
 unreplied deed ((call, Failed error) ∷ (next ∷ rest)) none = refl
 
--- a reply to a WRITE tells that bytes went in, if there were any
-pub went_in-count : (call : WaitingCall) (status : ℕ) → status ≡ length call.bytes → not (status == 0) ≡ went_in ((call, Reply status []) ∷ [])
-went_in-count call status is = rw (sym is) (of (status == 0))
+-- bytes went in by the one answer or by none
+pub went_in-one : (call : WaitingCall) (answer : Answer) → is_written call.bytes answer ≡ went_in ((call, answer) ∷ [])
+went_in-one call answer = or_false (is_written call.bytes answer)
   where
-    of : (none : Bool) → not none ≡ ((not none && not none) || false)
-    of true = refl
-    of false = refl
+    or_false : (test : Bool) → test ≡ (test || false)
+    or_false true = refl
+    or_false false = refl
 
 -- what a READ and a WRITE over an open control block do to its pipe
 module _ (s : Stored) (c : Shared) (opened : Opened) (block : Ocb) where

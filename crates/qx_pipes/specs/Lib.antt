@@ -1,3 +1,2 @@
 pub mod Pipes
 pub mod Told
-pub mod inner

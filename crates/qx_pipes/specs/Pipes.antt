@@ -1,12 +1,20 @@
--- What the steps of a message to the pipe manager leave of a store and of what all users share.
-use Rattle.std.specs.Prelude.{ℕ, ◌≡◌, [], Result, Ok, Err}
-use Rattle.qx_types.specs.declared.errno.Errno.{Errno}
+-- What the steps of a message to the pipe manager, or to a device's, leave of a store and of what all users share.
+use Rattle.std.specs.Prelude.{ℕ, ◌≡◌, [], Option, Some, None, Result, Ok, Err}
+use Rattle.qx_errno.specs.declared.Errno.{Errno}
+use Rattle.qx_devices.specs.declared.Device.{Device}
 use Rattle.qx_types.specs.declared.names.Coid.{Coid}
 use Rattle.qx_iofunc.specs.Store.{Stored, with_stored}
 use Rattle.qx_machine.specs.declared.rows.Effect.TheVariants.{Opens}
+use Rattle.qx_machine.specs.declared.rows.Kind.{Kind}
+use Rattle.qx_machine.specs.declared.rows.Kind.TheVariants as kind
 use Rattle.qx_machine.specs.Functions.{Deed, reply_alone}
 use Rattle.qx_machine.specs.Resources.{Resources}
 use Rattle.qx_shared.specs.Shared.{Shared, pipes_of, shared_after, state_after}
+
+-- the kind of inode that a device's manager has of its own, or the pipe manager
+abbrev pub kind_with : Option Device → Kind
+kind_with None = kind.Pipe
+kind_with (Some device) = kind.Device device
 
 -- what the managers keep for a user, with this of the user's in a store, and the pipes that the user has of what all share
 abbrev pub seen : Resources → Stored → Shared → Resources

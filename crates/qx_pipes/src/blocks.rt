@@ -8,15 +8,16 @@ ghost use Rattle.qx_machine.specs.Inodes.{has};
 ghost use Rattle.qx_machine.specs.PipeManager as machine;
 ghost use Rattle.qx_machine.specs.Resources.{Resources};
 ghost use Rattle.qx_isolation.specs.Rows.{with_row};
-ghost use Rattle.qx_machine.specs.Waiting.{caller_in, holds, is_call};
-ghost use Rattle.qx_machine.specs.declared.rows.Kind.TheVariants as kind;
-ghost use Rattle.qx_pipes.specs.Pipes.{Follows, done_of, seen};
+ghost use Rattle.qx_machine.specs.Waiting.{caller_in, holds, is_call, is_written};
+ghost use Rattle.qx_pipes.specs.Pipes.{Follows, done_of, kind_with, seen};
 ghost use Rattle.qx_pipes.specs.Told.{bytes_told, status_told, told_alone};
 ghost use Rattle.qx_shared.specs.Shared.{IsReceived, pipe_at, pipes_of, callers_thread, with_row_at};
 ghost use Rattle.qx_types.specs.declared.flags.TheConstants.OFlags.{NONBLOCK};
 ghost use Rattle.qx_types.specs.declared.limits.TheConstants.Limits.{TRANSFER};
 ghost use Rattle.qx_types.specs.declared.fields.Whence.{Whence as AnyWhence};
+ghost use Rattle.qx_types.specs.declared.outcome.Answer.TheVariants.{Reply as TheReply};
 
+use crate::kinds::kind_of;
 use bitflags::Flags;
 use qx_attr::Inodes;
 use qx_iofunc::Store;
@@ -24,7 +25,7 @@ use qx_machine::{Kind, Manner, Ocb, Opened};
 use qx_process::{Reply, Room};
 use qx_queues::PipeCall;
 use qx_shared::Shared;
-use qx_types::{Errno, Limits, OFlags, Thread, User};
+use qx_types::{Device, Errno, Limits, OFlags, Thread, User};
 
 /// A READ of a call whose message was received. Where nobody waits in the pipe and it is answered with a reply, it is told
 /// that at once: the status, with the bytes in the reply; the room is left then. Else it is left without a reply: it waits
@@ -56,9 +57,9 @@ pub fn read(
     let inode = block.inode;
     let sides = store.inodes().sides(inode);
     let manner = manner(sides.for_writing, &block, opened.is_asked);
-    if let Some(status) = qx_pipe::pipe::read_alone(shared, user, inode, wanted, manner, reply) {
-        set_size(shared, store, inode, false, opened.moment);
-        return Ok(Some(status));
+    if let Some(told) = qx_pipe::pipe::read_alone(shared, user, inode, wanted, manner, reply) {
+        store.set_size(inode, told.size as u64, false, opened.moment);
+        return Ok(Some(told.status));
     }
     let Some(own_room) = room.take() else {
         unreachable!();
@@ -98,9 +99,10 @@ pub fn write(
     let inode = block.inode;
     let sides = store.inodes().sides(inode);
     let manner = manner(sides.for_reading, &block, opened.is_asked);
-    if let Some(status) = qx_pipe::pipe::write_alone(shared, user, inode, bytes, manner) {
-        set_size(shared, store, inode, status != 0, opened.moment);
-        return Ok(Some(status));
+    if let Some(told) = qx_pipe::pipe::write_alone(shared, user, inode, bytes, manner) {
+        let filled = is_filled(bytes, told.status);
+        store.set_size(inode, told.size as u64, filled, opened.moment);
+        return Ok(Some(told.status));
     }
     let Some(own_room) = room.take() else {
         unreachable!();
@@ -126,15 +128,21 @@ pub fn seek(store: &Store, opened: Opened) -> Errno
 
 /// Takes an open control block of a user away (C Library Reference: `close`): the calls that wait over it are answered, and
 /// those whom that concerns; what was open with it goes, with its pipe, where nothing names that and nothing else has it
-/// open. EBADF without a block of a pipe or of a directory.
-pub fn close(shared: &mut Shared, store: &mut Store, number: u16, moment: u64) -> Result<(), Errno>
+/// open. EBADF without a block of the manager's own kind of inode or of a directory.
+pub fn close(
+    shared: &mut Shared,
+    store: &mut Store,
+    device: Option<Device>,
+    number: u16,
+    moment: u64,
+) -> Result<(), Errno>
     requires user { store.old.stored.user < length shared.old.pipes }
     ensures user { store.new.stored.user ≡ store.old.stored.user }
-    ensures done { (r : Resources) → result ≡ done_of (defaults.free_block kind.Pipe (seen r store.old.stored shared.old) number moment) }
-    ensures left { (r : Resources) → Follows store.old.stored shared.old store.new.stored shared.new r (defaults.free_block kind.Pipe (seen r store.old.stored shared.old) number moment) }
+    ensures done { (r : Resources) → result ≡ done_of (defaults.free_block (kind_with device) (seen r store.old.stored shared.old) number moment) }
+    ensures left { (r : Resources) → Follows store.old.stored shared.old store.new.stored shared.new r (defaults.free_block (kind_with device) (seen r store.old.stored shared.old) number moment) }
 {
     let user = store.user();
-    let closed = store.close(Kind::Pipe, number)?;
+    let closed = store.close(kind_of(device), number)?;
     if shared.has_pipe(user, closed.inode) {
         let sides = store.inodes().sides(closed.inode);
         let filled = qx_pipe::pipe::release(shared, user, closed.inode, number, sides);
@@ -185,6 +193,13 @@ pub fn holder(shared: &Shared, inodes: &Inodes, thread: Thread, call: u64) -> Op
         }
     }
     None
+}
+
+// Whether bytes went in by a WRITE of these that is replied so.
+fn is_filled(bytes: &[u8], status: u64) -> bool
+    ensures { result ≡ is_written bytes.now (TheReply status []) }
+{
+    !bytes.is_empty() && status != 0
 }
 
 // Takes away the pipe of an inode that is gone, if one stands there.

@@ -88,7 +88,7 @@ impl Reply {
         ensures behind { self.new ≡ self.old ++ bytes.now }
     {
         if !self.is_in_room {
-            self.room.keep(&self.places[..self.len]);
+            self.room.set(&self.places[..self.len]);
             self.is_in_room = true;
         }
         self.room.push(bytes);
@@ -103,9 +103,25 @@ impl Reply {
         requires many { INLINE < length bytes.now }
         ensures kept { self.new ≡ bytes.now }
     {
-        self.room.keep(bytes);
+        self.room.set(bytes);
         self.len = bytes.len();
         self.is_in_room = true;
+    }
+
+    /// The bytes that a buffer has, which is left empty: more than a few go with the memory that they stand in.
+    pub fn take(&mut self, given: &mut Room)
+        requires none { self.old ≡ [] }
+        ensures taken { self.new ≡ given.old }
+        ensures left { given.new ≡ [] }
+    {
+        if given.len() > MessageBytes::INLINE {
+            self.len = given.len();
+            self.is_in_room = true;
+            mem::swap(&mut self.room, given);
+        } else {
+            self.push(given.as_slice());
+        }
+        given.clear();
     }
 
     /// A copy of few bytes, for which no memory is taken; none of more.

@@ -5,7 +5,7 @@ use Rattle.std.specs.List.{count_by, sum_by}
 use Rattle.std.proofs.lemmas.Bool.Decides.{nat_tests}
 use Rattle.std.proofs.lemmas.List.Sums.{get_or-le-sum_by, sum_by-cons}
 use Rattle.qx_types.specs.declared.limits.TheConstants.Limits.{SERVERS, FIRST_CONNECTION, LAST_CONNECTION}
-use Rattle.qx_types.specs.declared.errno.Errno.TheVariants.{EAGAIN, EMFILE}
+use Rattle.qx_errno.specs.declared.Errno.TheVariants.{EAGAIN, EMFILE}
 use Rattle.qx_types.specs.declared.names.Coid.{Coid}
 use Rattle.qx_types.specs.declared.names.Manager.{Manager}
 use Rattle.qx_types.specs.declared.outcome.Outcome.TheVariants.{Refused, WrongState}

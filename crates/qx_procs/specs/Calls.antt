@@ -2,7 +2,7 @@
 use Rattle.std.specs.Prelude.{ℕ, ◌≡◌, Bool, false, List, [], Option, Some, None, Result, Ok, Err, nat_le, is_none}
 use Rattle.std.specs.List.{flat_map}
 use Rattle.std.specs.Option.{option_to_list}
-use Rattle.qx_types.specs.declared.errno.Errno.TheVariants.{EAGAIN, EINVAL, EMFILE}
+use Rattle.qx_errno.specs.declared.Errno.TheVariants.{EAGAIN, EINVAL, EMFILE}
 use Rattle.qx_types.specs.declared.limits.TheConstants.Limits.{FIRST_CONNECTION, LAST_CONNECTION}
 use Rattle.qx_types.specs.declared.names.Coid.{Coid}
 use Rattle.qx_types.specs.declared.names.Manager.{Manager}

@@ -1,13 +1,14 @@
 //! Calls that wait in pipes.
 
-ghost use Rattle.std.specs.Prelude.{◌≡◌, ◌<◌, [], length, true};
+ghost use Rattle.std.specs.Prelude.{◌≡◌, ◌<◌, ◌≤◌, [], length, take, true};
 ghost use Rattle.qx_machine.specs.Waiting.{is_call, waiting_call};
 ghost use Rattle.qx_queues.specs.Calls.{wanted_by, written_by};
 ghost use Rattle.qx_queues.specs.Queues.{caller};
+ghost use Rattle.qx_types.specs.declared.limits.TheConstants.Limits.{TRANSFER};
 
 use qx_machine::Opened;
 use qx_process::Room;
-use qx_types::{Proc, Thread, User};
+use qx_types::{Limits, Proc, Thread, User};
 use std::marker::Model;
 
 /// What a call does to its pipe.
@@ -50,9 +51,9 @@ impl PipeCall {
         PipeCall::new(opened, Work::Read(wanted), room)
     }
 
-    /// A call that writes what is kept in its room (C Library Reference: `write`).
+    /// A call that writes what is kept in its room, at most as many bytes as one write has (C Library Reference: `write`).
     pub fn writing(opened: Opened, room: Room) -> Self
-        ensures call { result ≡ waiting_call opened 0 room }
+        ensures call { result ≡ waiting_call opened 0 (take TRANSFER room) }
     {
         PipeCall::new(opened, Work::Write, room)
     }
@@ -118,10 +119,11 @@ impl PipeCall {
     /// The bytes that it writes.
     pub fn bytes(&self) -> &[u8]
         ensures bytes { result.now ≡ self.now.bytes }
+        ensures few { length result.now ≤ TRANSFER }
     {
         match self.work {
             Work::Read(_) => &[],
-            Work::Write => self.room.as_slice(),
+            Work::Write => self.room.first(Limits::TRANSFER as u32),
         }
     }
 
@@ -141,7 +143,7 @@ impl PipeCall {
 
     /// The room for its reply, as it waits no more, with the bytes that it writes in it still.
     pub fn into_room(self) -> Room
-        ensures bytes { 0 < length self.bytes → result ≡ self.bytes }
+        ensures bytes { 0 < length self.bytes → take TRANSFER result ≡ self.bytes }
     {
         let PipeCall { room, .. } = self;
         room

@@ -1,6 +1,6 @@
 //! What the nodes of the table stand for and carry.
 
-ghost use Rattle.std.specs.Prelude.{◌≡◌, ◌+◌, ◌≤◌, ◌++◌, IfSome, false, is_some, length, true};
+ghost use Rattle.std.specs.Prelude.{◌≡◌, ◌+◌, ◌≤◌, ◌++◌, [], IfSome, false, is_some, length, true};
 ghost use Rattle.std.specs.Result.{ForOk};
 ghost use Rattle.qx_machine.specs.Processes.{keeps_room};
 ghost use Rattle.qx_types.specs.declared.limits.TheConstants.Limits.{BODY, PRIORITY, TRANSFER};
@@ -72,6 +72,27 @@ impl Answered {
             room,
         }
     }
+
+    /// The reply to a user's call that waited, with the bytes that stand in a buffer: more than a few go with the memory that
+    /// they stand in. The call's room is left in its place, with no bytes.
+    pub(crate) fn given(user: User, call: PipeCall, status: u64, given: &mut Room) -> Self
+        ensures answered { addressed_by result ≡ answer_to (users_call user.0 call) (Reply status given.old) }
+        ensures room { ComesWithRoom result }
+        ensures left { given.new ≡ [] }
+    {
+        let thread = call.thread(user);
+        let number = call.number();
+        let mut room = call.into_room();
+        mem::swap(&mut room, given);
+        given.clear();
+        let (answer, room) = reply_in_room(room, status);
+        Answered {
+            thread,
+            call: number,
+            answer,
+            room,
+        }
+    }
 }
 
 /// A reply with bytes in two pieces, and the room for a thread's replies, unless the reply takes that along.
@@ -85,8 +106,16 @@ fn reply_in_pieces(
     ensures reply { result.0 ≡ Reply status (first.now ++ second.now) }
     ensures room { is_some result.1 ≡ keeps_room result.0 }
 {
-    room.keep(first);
+    room.set(first);
     room.push(second);
+    reply_in_room(room, status)
+}
+
+/// A reply with the bytes that stand in a room, and that room, unless the reply takes it along.
+fn reply_in_room(room: Room, status: u64) -> (Answer, Option<Room>)
+    ensures reply { result.0 ≡ Reply status room }
+    ensures room { is_some result.1 ≡ keeps_room result.0 }
+{
     if room.as_slice().len() > MessageBytes::INLINE {
         return (Answer::Reply(status, room.into_bytes()), None);
     }

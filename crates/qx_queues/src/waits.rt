@@ -27,6 +27,7 @@ use crate::nodes::{Nodes, ThreadNodes};
 use crate::queues::{Queues, take_slot};
 use crate::waiting::{Answered, Slot, Waiting};
 use qx_lists::Table;
+use qx_process::Room;
 use qx_types::{Errno, Proc, Thread, User};
 use std::alloc::AllocError;
 
@@ -147,6 +148,19 @@ impl Queues {
         written
     }
 
+    /// A call whose message was received is replied to with the bytes that stand in a buffer, which is left empty; tells whether
+    /// that takes the bytes that it writes.
+    pub fn reply_given(&mut self, user: User, call: PipeCall, status: u64, given: &mut Room) -> bool
+        requires received { IsMessageReceived self.old (caller (users_call user.0 call)) }
+        ensures answered { self.new ≡ with_more_answers self.old (answer_to (users_call user.0 call) (Reply status given.old) ∷ []) }
+        ensures written { result ≡ is_written_by call.bytes (Reply status given.old) }
+        ensures left { given.new ≡ [] }
+    {
+        let written = is_written(&call, Ok((status, &[])));
+        self.give(Answered::given(user, call, status, given));
+        written
+    }
+
     /// The answer to a call whose message was received stands last among those that are given.
     #[inline(always)]
     fn give(&mut self, answered: Answered)
@@ -188,6 +202,21 @@ impl Queues {
     {
         match self.take_first(list, Leaving::All) {
             Some((user, call)) => self.pass(user, call, status, first, second),
+            None => unreachable!(),
+        }
+    }
+
+    /// The first call of a list is replied to with the bytes that stand in a buffer, which is left empty; tells whether that takes
+    /// the bytes that it writes.
+    pub fn reply_first(&mut self, list: usize, status: u64, given: &mut Room) -> bool
+        requires list { HasList self.old list }
+        requires waits { 0 < length (waiting_in_list self.old list) }
+        ensures answered { self.new ≡ with_more_answers (with_waiting self.old list (drop 1 (waiting_in_list self.old list))) (map (λ own. answer_to own (Reply status given.old)) (take 1 (waiting_in_list self.old list))) }
+        ensures written { result ≡ list_any (λ own. is_written_by own.call.bytes (Reply status given.old)) (take 1 (waiting_in_list self.old list)) }
+        ensures left { given.new ≡ [] }
+    {
+        match self.take_first(list, Leaving::All) {
+            Some((user, call)) => self.reply_given(user, call, status, given),
             None => unreachable!(),
         }
     }

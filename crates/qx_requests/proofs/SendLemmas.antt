@@ -2,7 +2,7 @@
 use Rattle.std.specs.Prelude.{IfOk, Ok, Option, Result, Some}
 use Rattle.std.proofs.Common.{◌≡◌, ℕ, Bool, true, false, List, refl, sym}
 use Rattle.qx_types.specs.declared.names.Prio.{Prio}
-use Rattle.qx_types.specs.declared.errno.Errno.TheVariants.{EAGAIN}
+use Rattle.qx_errno.specs.declared.Errno.TheVariants.{EAGAIN}
 use Rattle.qx_types.specs.declared.outcome.Outcome.{Outcome}
 use Rattle.qx_types.specs.declared.outcome.Outcome.TheVariants.{Refused}
 use Rattle.qx_paths.specs.declared.resolved.Resolved.{Resolved}

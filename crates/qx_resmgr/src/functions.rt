@@ -1,7 +1,7 @@
 ghost use Rattle.std.specs.Prelude.{◌≡◌, ◌≤◌, ℕ, Bool, List, Result, false, [], Err, IfOk, IsOk, IsSome, IsTrue, OnErr, length};
 ghost use Rattle.qx_types.specs.declared.limits.TheConstants.Limits.{TRANSFER};
-ghost use Rattle.qx_types.specs.declared.errno.Errno.{Errno};
-ghost use Rattle.qx_types.specs.declared.errno.Errno.TheVariants.{ENOSYS};
+ghost use Rattle.qx_errno.specs.declared.Errno.{Errno};
+ghost use Rattle.qx_errno.specs.declared.Errno.TheVariants.{ENOSYS};
 ghost use Rattle.qx_machine.specs.declared.rows.Effect.TheVariants.{Keeps};
 ghost use Rattle.qx_machine.specs.declared.rows.Opened.{Opened};
 ghost use Rattle.qx_machine.specs.Functions.{ConnectFunctions, IoFunctions, function_deed, no_connect, no_io};
@@ -37,16 +37,17 @@ impl Done {
 }
 
 /// A manager's functions for messages to a path (Writing a Resource Manager: `resmgr_connect_funcs_t`), which work on what it
-/// keeps for a user and on what all users share. A function is given what its message came over, or the error if that is
-/// not what the message needs, and the moment; one whose reply may have bytes puts them into `reply`. It always replies. An
-/// error leaves all as it was, and no bytes. Where memory is short, all is as it was too, and the message would have been
-/// done.
+/// keeps for a user and on what all users share. Managers of one type are told apart by their values. A function is given
+/// what its message came over, or the error if that is not what the message needs, and the moment; one whose reply may have
+/// bytes puts them into `reply`. It always replies. An error leaves all as it was, and no bytes. Where memory is short, all
+/// is as it was too, and the message would have been done.
 pub trait Connect<S: State<W, T>, W, T> {
     /// What they mean. A function that is left out is `no_function()`.
-    ghost connect: { ConnectFunctions T } = { no_connect };
+    ghost connect: { Self → ConnectFunctions T } = { λ _. no_connect };
 
     /// Opens what a path leads to. It may want memory.
     fn open(
+        &self,
         state: &mut S,
         waits: &mut W,
         over: Result<NewOpen, Errno>,
@@ -54,13 +55,14 @@ pub trait Connect<S: State<W, T>, W, T> {
         wish: Wish,
     ) -> Result<Result<Done, Errno>, AllocError>
         requires fits { S.fits state.old waits.old }
-        ensures did { IfOk result (λ given. Did S.State state.old waits.old state.new waits.new [] given (function_deed connect.«open» over (λ f over. f (S.told state.old waits.old) over rest.now wish))) }
+        ensures did { IfOk result (λ given. Did S.State state.old waits.old state.new waits.new [] given (function_deed (connect self.now).«open» over (λ f over. f (S.told state.old waits.old) over rest.now wish))) }
         ensures replied { IfOk result IsReplied }
         ensures err { OnErr result ((state.new ≡ state.old) × (waits.new ≡ waits.old)) }
-        ensures wanted { OnErr result (IsOk (function_deed connect.«open» over (λ f over. f (S.told state.old waits.old) over rest.now wish))) };
+        ensures wanted { OnErr result (IsOk (function_deed (connect self.now).«open» over (λ f over. f (S.told state.old waits.old) over rest.now wish))) };
 
     /// Tells the status of what a path leads to.
     fn stat(
+        &self,
         state: &mut S,
         waits: &mut W,
         root: Result<u32, Errno>,
@@ -70,11 +72,12 @@ pub trait Connect<S: State<W, T>, W, T> {
     ) -> Result<Done, Errno>
         requires fits { S.fits state.old waits.old }
         requires empty { reply.old ≡ [] }
-        ensures did { Did S.State state.old waits.old state.new waits.new reply.new result (function_deed connect.stat root (λ f root. f (S.told state.old waits.old) root rest.now moment)) }
+        ensures did { Did S.State state.old waits.old state.new waits.new reply.new result (function_deed (connect self.now).stat root (λ f root. f (S.told state.old waits.old) root rest.now moment)) }
         ensures replied { IsReplied result };
 
     /// Removes what a path leads to.
     fn unlink(
+        &self,
         state: &mut S,
         waits: &mut W,
         root: Result<u32, Errno>,
@@ -82,11 +85,12 @@ pub trait Connect<S: State<W, T>, W, T> {
         moment: u64,
     ) -> Result<Done, Errno>
         requires fits { S.fits state.old waits.old }
-        ensures did { Did S.State state.old waits.old state.new waits.new [] result (function_deed connect.unlink root (λ f root. f (S.told state.old waits.old) root rest.now moment)) }
+        ensures did { Did S.State state.old waits.old state.new waits.new [] result (function_deed (connect self.now).unlink root (λ f root. f (S.told state.old waits.old) root rest.now moment)) }
         ensures replied { IsReplied result };
 
     /// Makes a directory. It may want memory.
     fn mknod(
+        &self,
         state: &mut S,
         waits: &mut W,
         root: Result<u32, Errno>,
@@ -95,10 +99,10 @@ pub trait Connect<S: State<W, T>, W, T> {
         moment: u64,
     ) -> Result<Result<Done, Errno>, AllocError>
         requires fits { S.fits state.old waits.old }
-        ensures did { IfOk result (λ given. Did S.State state.old waits.old state.new waits.new [] given (function_deed connect.mknod root (λ f root. f (S.told state.old waits.old) root mode rest.now moment))) }
+        ensures did { IfOk result (λ given. Did S.State state.old waits.old state.new waits.new [] given (function_deed (connect self.now).mknod root (λ f root. f (S.told state.old waits.old) root mode rest.now moment))) }
         ensures replied { IfOk result IsReplied }
         ensures err { OnErr result ((state.new ≡ state.old) × (waits.new ≡ waits.old)) }
-        ensures wanted { OnErr result (IsOk (function_deed connect.mknod root (λ f root. f (S.told state.old waits.old) root mode rest.now moment))) };
+        ensures wanted { OnErr result (IsOk (function_deed (connect self.now).mknod root (λ f root. f (S.told state.old waits.old) root mode rest.now moment))) };
 }
 
 /// A manager's functions for messages over what is open (Writing a Resource Manager: `resmgr_io_funcs_t`), which work on
@@ -109,17 +113,18 @@ pub trait Connect<S: State<W, T>, W, T> {
 /// short, all is as it was too, and the message would have been done.
 pub trait Io<S: State<W, T>, W, T> {
     /// What they mean. A function that is left out is `no_function()`.
-    ghost io: { IoFunctions T } = { no_io };
+    ghost io: { Self → IoFunctions T } = { λ _. no_io };
 
     /// Which writes and notifications may want memory: by what is open, by the bytes that are written, none by a notification,
     /// and by the difference that they make to what the functions work on. Most managers' want none.
-    ghost wants: { Result Opened Errno → List ℕ → T → T → Bool } = { λ _ _ _ _. false };
+    ghost wants: { Self → Result Opened Errno → List ℕ → T → T → Bool } = { λ _ _ _ _ _. false };
 
     /// What a read, a write or a notification needs of the thread whose message it is. Most managers ask nothing.
     ghost ready: { S → W → Opened → Type 0 } = { λ _ _ _. Unit {0} };
 
     /// Reads at most `count` bytes.
     fn read(
+        &self,
         state: &mut S,
         waits: &mut W,
         opened: Result<Opened, Errno>,
@@ -132,11 +137,12 @@ pub trait Io<S: State<W, T>, W, T> {
         requires room { IsSome room.old }
         requires empty { reply.old ≡ [] }
         requires count { count ≤ TRANSFER }
-        ensures did { Did S.State state.old waits.old state.new waits.new reply.new result (function_deed io.read opened (λ f o. f (S.told state.old waits.old) o count)) }
+        ensures did { Did S.State state.old waits.old state.new waits.new reply.new result (function_deed (io self.now).read opened (λ f o. f (S.told state.old waits.old) o count)) }
         ensures room { HasRoomAfter room.old room.new result };
 
     /// Writes bytes.
     fn write(
+        &self,
         state: &mut S,
         waits: &mut W,
         opened: Result<Opened, Errno>,
@@ -147,26 +153,32 @@ pub trait Io<S: State<W, T>, W, T> {
         requires ready { IfOk opened (λ o. ready state.old waits.old o) }
         requires room { IsSome room.old }
         requires count { length bytes.now ≤ TRANSFER }
-        ensures did { IfOk result (λ given. Did S.State state.old waits.old state.new waits.new [] given (function_deed io.write opened (λ f o. f (S.told state.old waits.old) o bytes.now))) }
+        ensures did { IfOk result (λ given. Did S.State state.old waits.old state.new waits.new [] given (function_deed (io self.now).write opened (λ f o. f (S.told state.old waits.old) o bytes.now))) }
         ensures room { IfOk result (λ given. HasRoomAfter room.old room.new given) }
         ensures err { OnErr result ((state.new ≡ state.old) × (waits.new ≡ waits.old) × (room.new ≡ room.old)) }
-        ensures wanted { OnErr result (IsTrue (is_done_so (wants opened bytes.now) (S.told state.old waits.old) (function_deed io.write opened (λ f o. f (S.told state.old waits.old) o bytes.now)))) };
+        ensures wanted { OnErr result (IsTrue (is_done_so (wants self.now opened bytes.now) (S.told state.old waits.old) (function_deed (io self.now).write opened (λ f o. f (S.told state.old waits.old) o bytes.now)))) };
 
     /// Takes a connection away, and its block with it where no other connection has that (Writing a Resource Manager:
     /// `iofunc_close_dup`).
-    fn close(state: &mut S, waits: &mut W, opened: Result<Opened, Errno>) -> Result<Done, Errno>
+    fn close(
+        &self,
+        state: &mut S,
+        waits: &mut W,
+        opened: Result<Opened, Errno>,
+    ) -> Result<Done, Errno>
         requires fits { S.fits state.old waits.old }
-        ensures did { Did S.State state.old waits.old state.new waits.new [] result (function_deed io.close opened (λ f o. f (S.told state.old waits.old) o)) }
+        ensures did { Did S.State state.old waits.old state.new waits.new [] result (function_deed (io self.now).close opened (λ f o. f (S.told state.old waits.old) o)) }
         ensures replied { IsReplied result };
 
     /// Gives a connection that its call made the block of another (Writing a Resource Manager: `io_dup`).
-    fn dup(state: &mut S, waits: &mut W, dup: Result<NewDup, Errno>) -> Result<Done, Errno>
+    fn dup(&self, state: &mut S, waits: &mut W, dup: Result<NewDup, Errno>) -> Result<Done, Errno>
         requires fits { S.fits state.old waits.old }
-        ensures did { Did S.State state.old waits.old state.new waits.new [] result (function_deed io.dup dup (λ f dup. f (S.told state.old waits.old) dup)) }
+        ensures did { Did S.State state.old waits.old state.new waits.new [] result (function_deed (io self.now).dup dup (λ f dup. f (S.told state.old waits.old) dup)) }
         ensures replied { IsReplied result };
 
     /// Sets the offset, in bytes.
     fn lseek(
+        &self,
         state: &mut S,
         waits: &mut W,
         opened: Result<Opened, Errno>,
@@ -174,11 +186,12 @@ pub trait Io<S: State<W, T>, W, T> {
         offset: i64,
     ) -> Result<Done, Errno>
         requires fits { S.fits state.old waits.old }
-        ensures did { Did S.State state.old waits.old state.new waits.new [] result (function_deed io.lseek opened (λ f o. f (S.told state.old waits.old) o whence offset)) }
+        ensures did { Did S.State state.old waits.old state.new waits.new [] result (function_deed (io self.now).lseek opened (λ f o. f (S.told state.old waits.old) o whence offset)) }
         ensures replied { IsReplied result };
 
     /// Tells the status of what is open.
     fn fstat(
+        &self,
         state: &mut S,
         waits: &mut W,
         opened: Result<Opened, Errno>,
@@ -186,11 +199,12 @@ pub trait Io<S: State<W, T>, W, T> {
     ) -> Result<Done, Errno>
         requires fits { S.fits state.old waits.old }
         requires empty { reply.old ≡ [] }
-        ensures did { Did S.State state.old waits.old state.new waits.new reply.new result (function_deed io.fstat opened (λ f o. f (S.told state.old waits.old) o)) }
+        ensures did { Did S.State state.old waits.old state.new waits.new reply.new result (function_deed (io self.now).fstat opened (λ f o. f (S.told state.old waits.old) o)) }
         ensures replied { IsReplied result };
 
     /// Tells the names of a directory behind the name `after`, or the first ones if that is empty.
     fn list(
+        &self,
         state: &mut S,
         waits: &mut W,
         opened: Result<Opened, Errno>,
@@ -199,22 +213,24 @@ pub trait Io<S: State<W, T>, W, T> {
     ) -> Result<Done, Errno>
         requires fits { S.fits state.old waits.old }
         requires empty { reply.old ≡ [] }
-        ensures did { Did S.State state.old waits.old state.new waits.new reply.new result (function_deed io.list opened (λ f o. f (S.told state.old waits.old) o after.now)) }
+        ensures did { Did S.State state.old waits.old state.new waits.new reply.new result (function_deed (io self.now).list opened (λ f o. f (S.told state.old waits.old) o after.now)) }
         ensures replied { IsReplied result };
 
     /// Sets the permission bits.
     fn chmod(
+        &self,
         state: &mut S,
         waits: &mut W,
         opened: Result<Opened, Errno>,
         mode: u16,
     ) -> Result<Done, Errno>
         requires fits { S.fits state.old waits.old }
-        ensures did { Did S.State state.old waits.old state.new waits.new [] result (function_deed io.chmod opened (λ f o. f (S.told state.old waits.old) o mode)) }
+        ensures did { Did S.State state.old waits.old state.new waits.new [] result (function_deed (io self.now).chmod opened (λ f o. f (S.told state.old waits.old) o mode)) }
         ensures replied { IsReplied result };
 
     /// Tells which conditions hold of what is open, and arms an event or takes away what its block had armed (`io_notify`).
     fn notify(
+        &self,
         state: &mut S,
         waits: &mut W,
         opened: Result<Opened, Errno>,
@@ -223,10 +239,10 @@ pub trait Io<S: State<W, T>, W, T> {
     ) -> Result<Result<Done, Errno>, AllocError>
         requires fits { S.fits state.old waits.old }
         requires ready { IfOk opened (λ o. ready state.old waits.old o) }
-        ensures did { IfOk result (λ given. Did S.State state.old waits.old state.new waits.new [] given (function_deed io.notify opened (λ f o. f (S.told state.old waits.old) o action wish))) }
+        ensures did { IfOk result (λ given. Did S.State state.old waits.old state.new waits.new [] given (function_deed (io self.now).notify opened (λ f o. f (S.told state.old waits.old) o action wish))) }
         ensures replied { IfOk result IsReplied }
         ensures err { OnErr result ((state.new ≡ state.old) × (waits.new ≡ waits.old)) }
-        ensures wanted { OnErr result (IsTrue (is_done_so (wants opened []) (S.told state.old waits.old) (function_deed io.notify opened (λ f o. f (S.told state.old waits.old) o action wish)))) };
+        ensures wanted { OnErr result (IsTrue (is_done_so (wants self.now opened []) (S.told state.old waits.old) (function_deed (io self.now).notify opened (λ f o. f (S.told state.old waits.old) o action wish)))) };
 }
 
 /// The answer of a function that a manager leaves out: ENOSYS.

@@ -21,6 +21,7 @@ use std::alloc::AllocError;
 /// was. Only an open, a mknod and, of some managers, a write or a notification may want memory, and only where they would
 /// be done.
 pub fn serve<M: Connect<S, W, T> + Io<S, W, T>, S: State<W, T>, W, T>(
+    manager: &M,
     state: &mut S,
     waits: &mut W,
     context: Context,
@@ -33,10 +34,10 @@ pub fn serve<M: Connect<S, W, T> + Io<S, W, T>, S: State<W, T>, W, T>(
     requires room { IsSome room.old }
     requires ranges { IsTrue (in_ranges message) }
     requires empty { reply.old ≡ [] }
-    ensures did { IfOk result (λ given. Did S.State state.old waits.old state.new waits.new reply.new given (message_deed M.connect M.io (S.told state.old waits.old) context message.entry)) }
+    ensures did { IfOk result (λ given. Did S.State state.old waits.old state.new waits.new reply.new given (message_deed (M.connect manager.now) (M.io manager.now) (S.told state.old waits.old) context message.entry)) }
     ensures room { IfOk result (λ given. HasRoomAfter room.old room.new given) }
     ensures err { OnErr result ((state.new ≡ state.old) × (waits.new ≡ waits.old) × (room.new ≡ room.old)) }
-    ensures wanted { OnErr result (IsTrue (deed_wants_memory (M.wants context.opened) (S.told state.old waits.old) message.entry (message_deed M.connect M.io (S.told state.old waits.old) context message.entry))) }
+    ensures wanted { OnErr result (IsTrue (deed_wants_memory (M.wants manager.now context.opened) (S.told state.old waits.old) message.entry (message_deed (M.connect manager.now) (M.io manager.now) (S.told state.old waits.old) context message.entry))) }
 {
     let Context {
         target,
@@ -51,13 +52,13 @@ pub fn serve<M: Connect<S, W, T> + Io<S, W, T>, S: State<W, T>, W, T>(
                 mode,
                 moment,
             };
-            return M::open(state, waits, new_open(context), &rest, wish);
+            return manager.open(state, waits, new_open(context), &rest, wish);
         }
         Message::Mknod { mode, rest } => {
-            return M::mknod(state, waits, side_root(target), mode, &rest, moment);
+            return manager.mknod(state, waits, side_root(target), mode, &rest, moment);
         }
         Message::Write { bytes } => {
-            return M::write(state, waits, opened, bytes.as_slice(), room);
+            return manager.write(state, waits, opened, bytes.as_slice(), room);
         }
         Message::Notify {
             action,
@@ -70,17 +71,24 @@ pub fn serve<M: Connect<S, W, T> + Io<S, W, T>, S: State<W, T>, W, T>(
                 code,
                 value,
             };
-            return M::notify(state, waits, opened, action, wish);
+            return manager.notify(state, waits, opened, action, wish);
         }
-        Message::Stat { rest } => M::stat(state, waits, side_root(target), &rest, moment, reply),
-        Message::Unlink { rest } => M::unlink(state, waits, side_root(target), &rest, moment),
-        Message::Read { count } => M::read(state, waits, opened, count, reply, room),
-        Message::Close => M::close(state, waits, opened),
-        Message::Dup { .. } => M::dup(state, waits, new_dup(context)),
-        Message::Lseek { whence, offset } => M::lseek(state, waits, opened, whence, offset),
-        Message::Fstat => M::fstat(state, waits, opened, reply),
-        Message::List { after } => M::list(state, waits, opened, after.as_slice(), reply),
-        Message::Chmod { mode } => M::chmod(state, waits, opened, mode),
+        Message::Stat { rest } => manager.stat(
+            state,
+            waits,
+            side_root(target),
+            &rest,
+            moment,
+            reply,
+        ),
+        Message::Unlink { rest } => manager.unlink(state, waits, side_root(target), &rest, moment),
+        Message::Read { count } => manager.read(state, waits, opened, count, reply, room),
+        Message::Close => manager.close(state, waits, opened),
+        Message::Dup { .. } => manager.dup(state, waits, new_dup(context)),
+        Message::Lseek { whence, offset } => manager.lseek(state, waits, opened, whence, offset),
+        Message::Fstat => manager.fstat(state, waits, opened, reply),
+        Message::List { after } => manager.list(state, waits, opened, after.as_slice(), reply),
+        Message::Chmod { mode } => manager.chmod(state, waits, opened, mode),
     };
     Ok(given)
 }

@@ -1,8 +1,9 @@
 -- What functions come to, by what the store and the pipes tell of them.
 use Rattle.std.proofs.Common.{◌≡◌, ◌∙◌, ◌+◌, ◌-◌, ℕ, Bool, true, false, List, [], Result, Ok, Err, IfOk, OnErr, MatchResult, refl, sym, ap, subst, arith}
-use Rattle.std.specs.Prelude.{◌||◌, IsTrue, Option, option_map}
+use Rattle.std.specs.Prelude.{◌||◌, IsTrue, Option, Some, None, option_map}
 use Rattle.std.proofs.lemmas.List.{set-get_or}
-use Rattle.qx_types.specs.declared.errno.Errno.{Errno}
+use Rattle.qx_errno.specs.declared.Errno.{Errno}
+use Rattle.qx_devices.specs.declared.Device.{Device}
 use Rattle.qx_types.specs.declared.names.Manager.TheVariants as managers
 use Rattle.qx_paths.specs.Mounts.{mounts_of}
 use Rattle.qx_paths.specs.Prefixes.{MountPoint}
@@ -19,10 +20,11 @@ use Rattle.qx_isolation.specs.Judgements.{◌>>=◌}
 use Rattle.qx_isolation.specs.Rows.{row_at}
 use Rattle.std.proofs.lemmas.Bool.{cond-false}
 use Rattle.qx_machine.specs.Functions.{Deed, reply_alone}
+use Rattle.qx_machine.specs.Managers.{own_kind}
 use Rattle.qx_machine.specs.Resources.{Resources}
 use Rattle.qx_machine.specs.Wants.{difference_wants_memory, got_events, is_done_so, writes_to_blank}
 use Rattle.qx_pipes.proofs.PipesLemmas.{given-same}
-use Rattle.qx_pipes.specs.Pipes.{Follows, done_of, seen}
+use Rattle.qx_pipes.specs.Pipes.{Follows, done_of, kind_with, seen}
 use Rattle.qx_pipes.specs.Told.{bytes_told, status_told}
 use Rattle.qx_resmgr.specs.Deeds.{Did, reply_with}
 use Rattle.qx_resmgr.specs.declared.functions.Done.{Done}
@@ -30,7 +32,7 @@ use Rattle.qx_resmgr.specs.declared.functions.Done.TheVariants.{Reply}
 use Rattle.qx_resources.specs.Boot.{kept_of}
 use Rattle.qx_notify.specs.Events.{AllEvents, events_of, with_events}
 use Rattle.qx_resources.specs.State.{Kept, state, told}
-use Rattle.qx_resources.specs.Told.{done_at_once}
+use Rattle.qx_resources.specs.Told.{done_at_once, manager_with}
 use Rattle.qx_resources.proofs.ToldLemmas.{KeepsAll, reply-told}
 use Rattle.qx_resources.specs.inner.State.{AreLeft, Came}
 use Rattle.qx_resources.specs.declared.tables.Tables.{Tables}
@@ -156,6 +158,12 @@ module _ (k l : Kept) (w v : Tables) (own : Kind) (opened : Opened) (last : is_s
       let closed : close_dup own (told k w) opened ≡ close_last own (told k w) opened = cond-false (is_shared (row_at k.inodes.blocks opened.number)) _ _ last in
       rw closed (refused-by error (close_ocb own (told k w) opened.number opened.moment) _ came)
 
+-- ---- the pipe manager, and each device's
+
+pub own-with : (device : Option Device) → own_kind (manager_with device) ≡ kind_with device
+own-with None = refl
+own-with (Some device) = refl
+
 -- ---- what a write or a notification wants
 
 or-right : (test : Bool) {other : Bool} → other ≡ true → (test || other) ≡ true
@@ -172,3 +180,10 @@ module _ (r : Resources) (over : Result Opened Errno) (bytes : List ℕ) where
   pub events-wanted : (given : Result (Deed Resources) Errno) → IsTrue (is_done_so got_events r given) → IsTrue (is_done_so (difference_wants_memory managers.Ram over bytes) r given)
   events-wanted (Ok deed) more = or-right (writes_to_blank r over bytes) more
   events-wanted (Err error) more = more
+
+  -- and of the pipe manager, and of a device's
+  pub pipe-wanted : (device : Option Device) (given : Result (Deed Resources) Errno) → IsTrue (is_done_so got_events r given) → IsTrue (is_done_so (difference_wants_memory (manager_with device) over bytes) r given)
+  pipe-wanted None (Ok deed) more = more
+  pipe-wanted (Some device) (Ok deed) more = more
+  pipe-wanted None (Err error) more = more
+  pipe-wanted (Some device) (Err error) more = more

@@ -2,7 +2,7 @@
 use Rattle.std.proofs.Common.{◌≡◌, ◌⊎◌, inl, inr, ◌∙◌, ℕ, true, List, [], ◌∷◌, Option, Some, None, Result, Ok, Err, IfOk, refl, sym, ap}
 use Rattle.std.specs.Prelude.{IfSome, option_map}
 use Rattle.std.proofs.lemmas.Bool.{cases_Bool, cond_both}
-use Rattle.qx_types.specs.declared.errno.Errno.{Errno}
+use Rattle.qx_errno.specs.declared.Errno.{Errno}
 use Rattle.qx_types.specs.declared.names.Manager.{Manager}
 use Rattle.qx_types.specs.declared.names.Manager.TheVariants as managers
 use Rattle.qx_types.specs.declared.outcome.Answer.{Answer}
@@ -16,6 +16,8 @@ use Rattle.qx_machine.specs.declared.rows.WaitingCall.{WaitingCall}
 use Rattle.qx_machine.specs.declared.rows.Effect.TheVariants.{Keeps}
 use Rattle.qx_machine.specs.Functions as functions
 use Rattle.qx_machine.specs.Functions.{Deed}
+use Rattle.qx_machine.specs.Managers.{own_kind}
+use Rattle.qx_machine.specs.Names.{has_calls}
 use Rattle.qx_machine.specs.PipeManager.{read_pipe, write_pipe}
 use Rattle.qx_machine.specs.Resources.{Resources}
 use Rattle.qx_machine.proofs.Gives.{Gives, gives_done, gives_on}
@@ -29,20 +31,27 @@ use Rattle.qx_resources.specs.Told.{done_at_once, told_by, told_over, told_pipe}
 abbrev pub Asks : Meaning → Type 0
 Asks meaning = ((count : ℕ) × (meaning ≡ Known (msg.Read count))) ⊎ ((bytes : List ℕ) × (meaning ≡ Known (msg.Write bytes)))
 
--- what the pipe manager may tell at once
+-- what the pipe manager, or a device's, may tell at once
 pub record ToldAlone (manager : Manager) (r : Resources) (context : Context) (meaning : Meaning) (given : Result (Deed Resources) Errno) : Type 0 where
-  pub pipe : manager ≡ managers.Pipe
+  pub calls : has_calls (own_kind manager) ≡ true
   pub asks : Asks meaning
   pub opened : Opened
   pub over : context.opened ≡ Ok opened
   pub told : told_by manager r context meaning given ≡ told_alone r opened given
 
+-- a READ or a WRITE over what is open
+record ToldOver (r : Resources) (context : Context) (meaning : Meaning) (given : Result (Deed Resources) Errno) : Type 0 where
+  pub asks : Asks meaning
+  pub opened : Opened
+  pub over : context.opened ≡ Ok opened
+  pub told : told_pipe r context meaning given ≡ told_alone r opened given
+
 over-cases : (r : Resources) (context : Context) (meaning : Meaning) (given : Result (Deed Resources) Errno) → Asks meaning → (opened : Result Opened Errno) → context.opened ≡ opened → told_pipe r context meaning given ≡ told_over r opened given
-    → (told_pipe r context meaning given ≡ given) ⊎ ToldAlone managers.Pipe r context meaning given
-over-cases r context meaning given asks (Ok opened) over told = inr (record { pipe = refl; asks = asks; opened = opened; over = over; told = told })
+    → (told_pipe r context meaning given ≡ given) ⊎ ToldOver r context meaning given
+over-cases r context meaning given asks (Ok opened) over told = inr (record { asks = asks; opened = opened; over = over; told = told })
 over-cases r context meaning given asks (Err error) over told = inl told
 
-pipe-cases : (r : Resources) (context : Context) (meaning : Meaning) (given : Result (Deed Resources) Errno) → (told_pipe r context meaning given ≡ given) ⊎ ToldAlone managers.Pipe r context meaning given
+pipe-cases : (r : Resources) (context : Context) (meaning : Meaning) (given : Result (Deed Resources) Errno) → (told_pipe r context meaning given ≡ given) ⊎ ToldOver r context meaning given
 pipe-cases r context (Known (msg.Read count)) given = over-cases r context (Known (msg.Read count)) given (inl (count, refl)) context.opened refl refl
 pipe-cases r context (Known (msg.Write bytes)) given = over-cases r context (Known (msg.Write bytes)) given (inr (bytes, refl)) context.opened refl refl
 pipe-cases r context (Known (msg.Open flags mode rest)) given = inl refl
@@ -62,7 +71,14 @@ pipe-cases r context Malformed given = inl refl
 -- it is what is meant, or what is told alone
 pub told-cases : (manager : Manager) (r : Resources) (context : Context) (meaning : Meaning) (given : Result (Deed Resources) Errno) → (told_by manager r context meaning given ≡ given) ⊎ ToldAlone manager r context meaning given
 told-cases managers.Ram r context meaning given = inl refl
-told-cases managers.Pipe r context meaning given = pipe-cases r context meaning given
+told-cases managers.Pipe r context meaning given = elim (pipe-cases r context meaning given) [
+  | inl same ↦ inl same
+  | inr it ↦ inr (record { calls = refl; asks = it.asks; opened = it.opened; over = it.over; told = it.told })
+]
+told-cases (managers.Device device) r context meaning given = elim (pipe-cases r context meaning given) [
+  | inl same ↦ inl same
+  | inr it ↦ inr (record { calls = refl; asks = it.asks; opened = it.opened; over = it.over; told = it.told })
+]
 
 -- the call is answered alone, with a reply
 pub record RepliedAlone (r : Resources) (opened : Opened) (deed : Deed Resources) : Type 0 where

@@ -3,7 +3,7 @@ use Rattle.std.proofs.Common.{◌≡◌, inl, inr, ℕ, ◌≤◌, Bool, not, �
 use Rattle.std.proofs.lemmas.Bool.{false≢true, eq-eqb, cases_Bool, cond_both}
 use Rattle.std.specs.List.{AllByRecursion}
 use Rattle.std.specs.Prelude.{Ok, ◌-◌, filter, if◌then◌else◌}
-use Rattle.qx_types.specs.declared.errno.Errno.TheVariants.{EBADF}
+use Rattle.qx_errno.specs.declared.Errno.TheVariants.{EBADF}
 use Rattle.qx_types.specs.declared.flags.OFlags.{OFlags}
 use Rattle.qx_machine.specs.declared.rows.Effect.TheVariants.{Closes}
 use Rattle.qx_machine.specs.declared.rows.Event.{Event}
@@ -49,10 +49,15 @@ free-blocks inodes inode = cond_both (is_unused inodes inode (row_at inodes.attr
 free-made : (inodes : Inodes) (inode : ℕ) → (free_inode inodes inode).made ≡ inodes.made
 free-made inodes inode = cond_both (is_unused inodes inode (row_at inodes.attributes inode)) _ inodes (λ (now : Inodes). now.made ≡ inodes.made) (λ is. refl) (λ is_not. refl)
 
+-- with the pipe
+row-closed : (r : Resources) (number inode : ℕ) (s : Resources) → IsClosed r number inode s → IsClosed r number inode (record s { inodes = free_inode s.inodes inode; pipes = slice_set s.pipes inode None })
+row-closed r number inode s h = record { blocks = free-blocks s.inodes inode ∙ h.blocks; made = free-made s.inodes inode ∙ h.made; pipes = λ other apart. row_at-set_other s.pipes inode other None apart ∙ h.pipes other apart; events = h.events }
+
 content-closed : (own : Kind) (r : Resources) (number inode : ℕ) (s : Resources) → IsClosed r number inode s → IsClosed r number inode (without_content own inode (record s { inodes = free_inode s.inodes inode }))
 content-closed File r number inode s h = record { blocks = free-blocks s.inodes inode ∙ h.blocks; made = free-made s.inodes inode ∙ h.made; pipes = h.pipes; events = h.events }
 content-closed Directory r number inode s h = record { blocks = free-blocks s.inodes inode ∙ h.blocks; made = free-made s.inodes inode ∙ h.made; pipes = h.pipes; events = h.events }
-content-closed kind.Pipe r number inode s h = record { blocks = free-blocks s.inodes inode ∙ h.blocks; made = free-made s.inodes inode ∙ h.made; pipes = λ other apart. row_at-set_other s.pipes inode other None apart ∙ h.pipes other apart; events = h.events }
+content-closed kind.Pipe r number inode s h = row-closed r number inode s h
+content-closed (kind.Device device) r number inode s h = row-closed r number inode s h
 
 unused-closed : (own : Kind) (r : Resources) (number inode : ℕ) (s : Resources) → IsClosed r number inode s → IsClosed r number inode (without_unused own inode s)
 unused-closed own r number inode s h = cond_both (is_unused s.inodes inode (row_at s.inodes.attributes inode)) _ s (IsClosed r number inode) (λ is. content-closed own r number inode s h) (λ is_not. h)

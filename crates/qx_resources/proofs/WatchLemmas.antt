@@ -1,7 +1,7 @@
 -- After a message, or an unblock, only the events of the watched pipe's blocks can be due.
 use Rattle.std.proofs.Common.{◌≡◌, refl, ap, ◌∙◌, Bool, true, false, ℕ, List, Option, Some, None, IsSome, Result, Ok, Err, map}
 use Rattle.std.specs.Prelude.{position, if◌then◌else◌}
-use Rattle.qx_types.specs.declared.errno.Errno.{Errno}
+use Rattle.qx_errno.specs.declared.Errno.{Errno}
 use Rattle.qx_types.specs.declared.names.Manager.{Manager}
 use Rattle.qx_types.specs.declared.names.Manager.TheVariants as managers
 use Rattle.qx_wire.specs.declared.message.Meaning.{Meaning}
@@ -10,12 +10,13 @@ use Rattle.qx_wire.specs.declared.message.Message.{Message}
 use Rattle.qx_wire.specs.declared.message.Message.TheVariants as msg
 use Rattle.qx_machine.specs.declared.rows.Attribute.{Attribute}
 use Rattle.qx_machine.specs.declared.rows.Context.{Context}
+use Rattle.qx_machine.specs.declared.rows.Kind.{Kind}
 use Rattle.qx_machine.specs.declared.rows.Kind.TheVariants as kind
 use Rattle.qx_machine.specs.declared.rows.Ocb.{Ocb}
 use Rattle.qx_machine.specs.declared.rows.Opened.{Opened}
-use Rattle.qx_machine.specs.Functions.{Deed, new_dup, new_open, side_root}
+use Rattle.qx_machine.specs.Functions.{Deed, message_deed, new_dup, new_open, side_root}
 use Rattle.qx_isolation.specs.Judgements.{◌>>=◌}
-use Rattle.qx_machine.specs.Managers.{manager_deed}
+use Rattle.qx_machine.specs.Managers.{manager_deed, pipe_connect, pipe_io}
 use Rattle.qx_machine.specs.Notification.{events_settled}
 use Rattle.qx_machine.specs.Performing.{deed_of}
 use Rattle.qx_machine.specs.PipeManager.{cancel_call}
@@ -70,24 +71,25 @@ module _ (r : Resources) (no_stale : HasNoStalePipe r) (context : Context) where
   ram-settled (msg.Notify action conditions code value) = still r (msg.Notify action conditions code value) context.opened _ refl (gives_on _ context.opened _ (λ over is. notify-still r over action _))
   ram-settled (msg.Chmod mode) = still r (msg.Chmod mode) context.opened _ refl (gives_on _ context.opened _ (λ over is. chmod-still r over mode))
 
-  pipe-settled : (message : Message) → Gives (IsSettled r (Known message) context.opened) (manager_deed managers.Pipe r context message)
-  pipe-settled (msg.Open flags mode rest) = still r (msg.Open flags mode rest) context.opened _ refl (gives_on _ (new_open context) _ (λ over is. open-still r no_stale kind.Pipe over rest _))
-  pipe-settled (msg.Stat rest) = still r (msg.Stat rest) context.opened _ refl (gives_on _ (side_root context.target) _ (λ root is. stat_path-still r root rest context.moment))
-  pipe-settled (msg.Unlink rest) = still r (msg.Unlink rest) context.opened _ refl (gives_on _ (side_root context.target) _ (λ root is. unlink-still kind.Pipe r root rest context.moment))
-  pipe-settled (msg.Mknod mode rest) = gives_error _ _
-  pipe-settled (msg.Read count) = over_opened r (Known (msg.Read count)) context.opened _ (λ over. read_pipe-settled r over count)
-  pipe-settled (msg.Write bytes) = over_opened r (Known (msg.Write bytes)) context.opened _ (λ over. write_pipe-settled r over bytes)
-  pipe-settled msg.Close = over_opened r (Known msg.Close) context.opened _ (λ over. close_dup-settled kind.Pipe r over)
-  pipe-settled (msg.Dup old) = still r (msg.Dup old) context.opened _ refl (gives_on _ (new_dup context) _ (λ dup is. dup-still r dup))
-  pipe-settled (msg.Lseek whence offset) = still r (msg.Lseek whence offset) context.opened _ refl (gives_on _ context.opened _ (λ over is. seek_pipe-still r over whence offset))
-  pipe-settled msg.Fstat = still r msg.Fstat context.opened _ refl (gives_on _ context.opened _ (λ over is. stat_block-still r over))
-  pipe-settled (msg.List after) = still r (msg.List after) context.opened _ refl (gives_on _ context.opened _ (λ over is. list-still r over after))
-  pipe-settled (msg.Notify action conditions code value) = still r (msg.Notify action conditions code value) context.opened _ refl (gives_on _ context.opened _ (λ over is. notify-still r over action _))
-  pipe-settled (msg.Chmod mode) = still r (msg.Chmod mode) context.opened _ refl (gives_on _ context.opened _ (λ over is. chmod-still r over mode))
+  pipe-settled : (own : Kind) (message : Message) → Gives (IsSettled r (Known message) context.opened) (message_deed (pipe_connect own) (pipe_io own) r context message)
+  pipe-settled own (msg.Open flags mode rest) = still r (msg.Open flags mode rest) context.opened _ refl (gives_on _ (new_open context) _ (λ over is. open-still r no_stale own over rest _))
+  pipe-settled own (msg.Stat rest) = still r (msg.Stat rest) context.opened _ refl (gives_on _ (side_root context.target) _ (λ root is. stat_path-still r root rest context.moment))
+  pipe-settled own (msg.Unlink rest) = still r (msg.Unlink rest) context.opened _ refl (gives_on _ (side_root context.target) _ (λ root is. unlink-still own r root rest context.moment))
+  pipe-settled own (msg.Mknod mode rest) = gives_error _ _
+  pipe-settled own (msg.Read count) = over_opened r (Known (msg.Read count)) context.opened _ (λ over. read_pipe-settled r over count)
+  pipe-settled own (msg.Write bytes) = over_opened r (Known (msg.Write bytes)) context.opened _ (λ over. write_pipe-settled r over bytes)
+  pipe-settled own msg.Close = over_opened r (Known msg.Close) context.opened _ (λ over. close_dup-settled own r over)
+  pipe-settled own (msg.Dup old) = still r (msg.Dup old) context.opened _ refl (gives_on _ (new_dup context) _ (λ dup is. dup-still r dup))
+  pipe-settled own (msg.Lseek whence offset) = still r (msg.Lseek whence offset) context.opened _ refl (gives_on _ context.opened _ (λ over is. seek_pipe-still r over whence offset))
+  pipe-settled own msg.Fstat = still r msg.Fstat context.opened _ refl (gives_on _ context.opened _ (λ over is. stat_block-still r over))
+  pipe-settled own (msg.List after) = still r (msg.List after) context.opened _ refl (gives_on _ context.opened _ (λ over is. list-still r over after))
+  pipe-settled own (msg.Notify action conditions code value) = still r (msg.Notify action conditions code value) context.opened _ refl (gives_on _ context.opened _ (λ over is. notify-still r over action _))
+  pipe-settled own (msg.Chmod mode) = still r (msg.Chmod mode) context.opened _ refl (gives_on _ context.opened _ (λ over is. chmod-still r over mode))
 
   manager-settled : (manager : Manager) (message : Message) → Gives (IsSettled r (Known message) context.opened) (manager_deed manager r context message)
   manager-settled managers.Ram message = ram-settled message
-  manager-settled managers.Pipe message = pipe-settled message
+  manager-settled managers.Pipe message = pipe-settled kind.Pipe message
+  manager-settled (managers.Device device) message = pipe-settled (kind.Device device) message
 
   meaning-settled : (given : Meaning) → Gives (IsSettled r given context.opened) (deed_of r context given)
   meaning-settled (Known message) = manager-settled context.target.manager message

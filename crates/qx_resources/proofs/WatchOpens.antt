@@ -1,9 +1,9 @@
 -- What an open and the making of a directory come to: nothing comes to hold by them.
-use Rattle.std.proofs.Common.{◌≡◌, inl, inr, ℕ, ◌≤◌, Bool, true, false, not, refl, sym, ap, ◌∙◌, arith, Option, Some, None, List, ◌∷◌, [], ◌++◌, le_of_eq, count_by, nat_le, ◌⊎◌, Ok, Err}
+use Rattle.std.proofs.Common.{◌≡◌, inl, inr, ℕ, ◌≤◌, Bool, true, false, not, refl, sym, ap, ◌∙◌, arith, Option, Some, None, List, slice_set, ◌∷◌, [], ◌++◌, le_of_eq, count_by, nat_le, ◌⊎◌, Ok, Err}
 use Rattle.std.proofs.lemmas.Bool.{cases_eq, cond_both}
 use Rattle.std.specs.Prelude.{◌&&◌, is_some, if◌then◌else◌}
-use Rattle.qx_types.specs.declared.errno.Errno.{Errno}
-use Rattle.qx_types.specs.declared.errno.Errno.TheVariants.{EISDIR, ENOSPC, EACCES, EEXIST, ENOENT, ENFILE}
+use Rattle.qx_errno.specs.declared.Errno.{Errno}
+use Rattle.qx_errno.specs.declared.Errno.TheVariants.{EISDIR, ENOSPC, EACCES, EEXIST, ENOENT, ENFILE}
 use Rattle.qx_types.specs.declared.flags.OFlags.{OFlags}
 use Rattle.qx_types.specs.declared.flags.TheConstants.OFlags.{CREAT, EXCL, TRUNC}
 use Rattle.qx_types.specs.declared.limits.TheConstants.Limits.{BLOCKS, INODES}
@@ -19,7 +19,7 @@ use Rattle.qx_machine.specs.Inodes.{is_open, reads, writes, Inodes, Numbered, bl
 use Rattle.qx_isolation.specs.Judgements.{found, need}
 use Rattle.qx_machine.specs.Names.{Spot, is_directory, spot}
 use Rattle.qx_machine.specs.Notification.{block_conditions, conditions_at, conditions_of}
-use Rattle.qx_machine.specs.Pipes.{Pipe}
+use Rattle.qx_machine.specs.Pipes.{Pipe, pipe_of}
 use Rattle.qx_machine.specs.RamManager.{emptied}
 use Rattle.qx_machine.specs.Resources.{Resources, with_empty}
 use Rattle.qx_isolation.specs.Rows.{row_at, lowest_from, put_row}
@@ -132,17 +132,21 @@ existing-still r over inode wish =
     opened-still r (emptied wish.flags inode wish.moment r) over wish.flags inode (emptied-ready wish.flags inode wish.moment r)))))
 
 module _ (r : Resources) (no_stale : HasNoStalePipe r) where
-  -- an empty pipe comes where no block has one open
-  empty-ready : (kind : Kind) (inode : ℕ) (s : Resources) → row_at r.inodes.attributes inode ≡ None → s.inodes.blocks ≡ r.inodes.blocks → s.pipes ≡ r.pipes → IsReady r (with_empty kind inode s)
-  empty-ready File inode s free blocks pipes = record { blocks = blocks; pipes = λ number block is. inl (ap (λ (rows : List (Option (Pipe WaitingCall))). row_at rows block.inode) pipes) }
-  empty-ready Directory inode s free blocks pipes = record { blocks = blocks; pipes = λ number block is. inl (ap (λ (rows : List (Option (Pipe WaitingCall))). row_at rows block.inode) pipes) }
-  empty-ready kind.Pipe inode s free blocks pipes = record {
+  -- a pipe or a device comes where no block has one open
+  row-ready : (row : Option (Pipe WaitingCall)) (inode : ℕ) (s : Resources) → row_at r.inodes.attributes inode ≡ None → s.inodes.blocks ≡ r.inodes.blocks → s.pipes ≡ r.pipes → IsReady r (record s { pipes = slice_set s.pipes inode row })
+  row-ready row inode s free blocks pipes = record {
     blocks = blocks;
     pipes = λ number block is. elim (cases_eq block.inode inode) [
       | inl same ↦ inr (no_stale number block is (ap (row_at r.inodes.attributes) same ∙ free))
-      | inr apart ↦ inl (row_at-set_other s.pipes inode block.inode _ apart ∙ ap (λ (rows : List (Option (Pipe WaitingCall))). row_at rows block.inode) pipes)
+      | inr apart ↦ inl (row_at-set_other s.pipes inode block.inode row apart ∙ ap (λ (rows : List (Option (Pipe WaitingCall))). row_at rows block.inode) pipes)
     ];
   }
+
+  empty-ready : (kind : Kind) (inode : ℕ) (s : Resources) → row_at r.inodes.attributes inode ≡ None → s.inodes.blocks ≡ r.inodes.blocks → s.pipes ≡ r.pipes → IsReady r (with_empty kind inode s)
+  empty-ready File inode s free blocks pipes = record { blocks = blocks; pipes = λ number block is. inl (ap (λ (rows : List (Option (Pipe WaitingCall))). row_at rows block.inode) pipes) }
+  empty-ready Directory inode s free blocks pipes = record { blocks = blocks; pipes = λ number block is. inl (ap (λ (rows : List (Option (Pipe WaitingCall))). row_at rows block.inode) pipes) }
+  empty-ready kind.Pipe inode s free blocks pipes = row-ready (Some (pipe_of None [] [] [])) inode s free blocks pipes
+  empty-ready (kind.Device device) inode s free blocks pipes = row-ready (Some (pipe_of (Some device) [] [] [])) inode s free blocks pipes
 
   made-ready : (at : Spot) (parent : Attribute) (kind : Kind) (mode moment : ℕ) → Gives (λ (made : MadeInode). IsReady r made.after) (made_at r at parent kind mode moment)
   made-ready at parent kind mode moment =

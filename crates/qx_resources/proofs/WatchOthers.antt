@@ -1,8 +1,8 @@
 -- What an unlink comes to, and what tells or arms alone: nothing comes to hold.
-use Rattle.std.proofs.Common.{◌≡◌, inl, ℕ, true, not, ◌==◌, refl, sym, ap, ◌∙◌, arith, Option, Some, None, ◌≢◌, List, count_by}
+use Rattle.std.proofs.Common.{◌≡◌, inl, ℕ, true, not, ◌==◌, refl, sym, ap, ◌∙◌, arith, Option, Some, None, ◌≢◌, List, slice_set, count_by}
 use Rattle.std.proofs.lemmas.Bool.{false≢true, eqb-true, cond_both, and_parts}
 use Rattle.std.specs.Prelude.{ℤ, ◌+◌, nat_lt}
-use Rattle.qx_types.specs.declared.errno.Errno.TheVariants.{EBADF, EINVAL, EMFILE, ENOENT, EBUSY, ENOTDIR, ENOTEMPTY, EPERM, ESPIPE}
+use Rattle.qx_errno.specs.declared.Errno.TheVariants.{EBADF, EINVAL, EMFILE, ENOENT, EBUSY, ENOTDIR, ENOTEMPTY, EPERM, ESPIPE}
 use Rattle.qx_types.specs.declared.fields.NotifyAction.{NotifyAction}
 use Rattle.qx_types.specs.declared.fields.Whence.{Whence}
 use Rattle.qx_types.specs.declared.limits.TheConstants.Limits.{LAST_CONNECTION}
@@ -52,12 +52,18 @@ none-open inodes inode (Some attribute) is = eqb-true _ 0 (and_parts _ _ is).1
 abbrev freed : Kind → ℕ → Resources → Resources
 freed own inode s = without_content own inode (record s { inodes = free_inode s.inodes inode })
 
+-- no block has its pipe open
+row-still : (r s : Resources) (inode : ℕ) → s.inodes.blocks ≡ r.inodes.blocks → s.pipes ≡ r.pipes → count_by (is_open (λ flags. true) inode) r.inodes.blocks ≡ 0 → IsStill r (record s { inodes = free_inode s.inodes inode; pipes = slice_set s.pipes inode None })
+row-still r s inode blocks pipes none =
+    let t = record s { inodes = free_inode s.inodes inode; pipes = slice_set s.pipes inode None } in
+    grows-still r t (same-grows r t (free-blocks s.inodes inode ∙ blocks) (λ number block is.
+    inl (row_at-set_other s.pipes inode block.inode None (unopened r.inodes.blocks number block inode is none) ∙ ap (λ (rows : List (Option (Pipe WaitingCall))). row_at rows block.inode) pipes)))
+
 content-still : (own : Kind) (r s : Resources) (inode : ℕ) → s.inodes.blocks ≡ r.inodes.blocks → s.pipes ≡ r.pipes → count_by (is_open (λ flags. true) inode) r.inodes.blocks ≡ 0 → IsStill r (freed own inode s)
 content-still File r s inode blocks pipes none = same-still r (freed File inode s) (free-blocks s.inodes inode ∙ blocks) pipes
 content-still Directory r s inode blocks pipes none = same-still r (freed Directory inode s) (free-blocks s.inodes inode ∙ blocks) pipes
-content-still kind.Pipe r s inode blocks pipes none =
-    grows-still r (freed kind.Pipe inode s) (same-grows r (freed kind.Pipe inode s) (free-blocks s.inodes inode ∙ blocks) (λ number block is.
-    inl (row_at-set_other s.pipes inode block.inode None (unopened r.inodes.blocks number block inode is none) ∙ ap (λ (rows : List (Option (Pipe WaitingCall))). row_at rows block.inode) pipes)))
+content-still kind.Pipe r s inode blocks pipes none = row-still r s inode blocks pipes none
+content-still (kind.Device device) r s inode blocks pipes none = row-still r s inode blocks pipes none
 
 unused-still : (own : Kind) (r s : Resources) (inode : ℕ) → s.inodes.blocks ≡ r.inodes.blocks → s.pipes ≡ r.pipes → IsStill r (without_unused own inode s)
 unused-still own r s inode blocks pipes =

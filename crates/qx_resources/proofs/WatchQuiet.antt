@@ -3,6 +3,7 @@ use Rattle.std.proofs.Common.{◌≡◌, inl, inr, ℕ, ◌≤◌, Bool, true, f
 use Rattle.std.proofs.Math.Bool.{and-false, and-not_self}
 use Rattle.std.proofs.lemmas.Bool.{false≢true, eq-eqb, eqb-true, true≢false, cases_Bool}
 use Rattle.std.specs.Prelude.{nat_lt, ◌&&◌, ◌||◌}
+use Rattle.qx_devices.specs.declared.Device.{Device}
 use Rattle.qx_types.specs.declared.limits.TheConstants.Limits.{PIPE}
 use Rattle.qx_machine.specs.declared.rows.Conditions.{Conditions}
 use Rattle.qx_machine.specs.declared.rows.Ocb.{Ocb}
@@ -13,6 +14,7 @@ use Rattle.qx_machine.specs.Notification.{block_conditions, conditions_at, condi
 use Rattle.qx_machine.specs.Pipes.{Pipe}
 use Rattle.qx_machine.specs.Resources.{Resources}
 use Rattle.qx_isolation.specs.Rows.{row_at}
+use Rattle.qx_machine.specs.Verdicts.{may_read, may_write}
 use Rattle.qx_machine.specs.Waiting.{sides_of}
 use Rattle.qx_resources.specs.Watching.{pipe_conditions, unwatched}
 
@@ -56,7 +58,7 @@ quiet-over r s number was is before after quiet =
 
 -- ---- what more open control blocks come to
 
--- a condition that held where a side was open comes not to hold where it is open still
+-- a condition that held where a side was open comes not to hold where it is open still; a device knows nobody's sides
 part : (holds was is : Bool) → (was ≡ true → is ≡ true) → ((holds || not is) && not (holds || not was)) ≡ false
 part true was is more = refl
 part false true true more = refl
@@ -66,10 +68,17 @@ part false false false more = refl
 
 quiet-pipe : (was is : Sides) (pipe : Option (Pipe WaitingCall)) → (was.for_reading ≡ true → is.for_reading ≡ true) → (was.for_writing ≡ true → is.for_writing ≡ true) → IsQuiet (conditions_of was pipe) (conditions_of is pipe)
 quiet-pipe was is None read write = record { input = refl; output = refl }
-quiet-pipe was is (Some pipe) read write = record {
-  input = part (not (length pipe.bytes == 0)) was.for_writing is.for_writing write;
-  output = part (nat_lt (length pipe.bytes) PIPE) was.for_reading is.for_reading read;
-}
+quiet-pipe was is (Some pipe) read write = by_device pipe.device
+  where
+    conditions : Option Device → Sides → Conditions
+    conditions device sides = record { input = may_read device sides pipe.bytes; output = may_write device sides pipe.bytes }
+
+    by_device : (device : Option Device) → IsQuiet (conditions device was) (conditions device is)
+    by_device None = record {
+      input = part (not (length pipe.bytes == 0)) was.for_writing is.for_writing write;
+      output = part (nat_lt (length pipe.bytes) PIPE) was.for_reading is.for_reading read;
+    }
+    by_device (Some device) = quiet-same (conditions (Some device) was) (conditions (Some device) is) refl
 
 some-stay : (was is : ℕ) → was ≤ is → not (was == 0) ≡ true → not (is == 0) ≡ true
 some-stay was is more some = elim (cases_Bool (is == 0)) [

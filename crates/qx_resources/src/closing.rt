@@ -79,10 +79,12 @@ fn free_block(
     ensures came { Came state.old tables.old state.new tables.new result (defaults.free_block (own_kind manager) (kept.told state.old tables.old) number moment) }
     ensures events { tables.new.events ≡ tables.old.events }
 {
-    match manager {
-        Manager::Ram => state.store.close(Kind::File, number).map(|_| ()),
-        Manager::Pipe => qx_pipes::close(&mut tables.shared, &mut state.store, number, moment),
-    }
+    let device = match manager {
+        Manager::Ram => return state.store.close(Kind::File, number).map(|_| ()),
+        Manager::Pipe => None,
+        Manager::Device(device) => Some(device),
+    };
+    qx_pipes::close(&mut tables.shared, &mut state.store, device, number, moment)
 }
 
 /// With a client go the open control blocks that it still has, in order of making, but for those of another manager's kind of

@@ -26,8 +26,8 @@ pub(crate) const BOTH: Conditions = Conditions {
 const PLACES: usize = Limits::BLOCKS + 1;
 
 impl Resources {
-    /// Which conditions hold of what is open under an inode (C Library Reference: `ionotify`): of a pipe input where bytes
-    /// stand or nobody has it open for writing, and output where bytes have room or nobody has it open for reading.
+    /// Which conditions hold of what is open under an inode (C Library Reference: `ionotify`): of a pipe and of a device what a
+    /// read and a write would not wait for, and of all else both.
     pub(crate) fn conditions(&self, tables: &Tables, inode: u32) -> Conditions
         ensures { result ≡ pipe_conditions (told self.now tables.now) inode }
     {
@@ -36,11 +36,7 @@ impl Resources {
             return BOTH;
         }
         let sides = self.store.inodes().sides(inode);
-        let len = tables.shared.pipe_len(user, inode);
-        Conditions {
-            input: len != 0 || !sides.for_writing,
-            output: len < Limits::PIPE || !sides.for_reading,
-        }
+        tables.shared.conditions(user, inode, sides)
     }
 
     /// Which conditions hold of what an open control block has open.

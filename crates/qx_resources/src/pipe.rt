@@ -1,8 +1,8 @@
 ghost use Rattle.std.specs.Prelude.{◌≡◌};
 ghost use Rattle.qx_machine.specs.Managers.{pipe_connect};
 ghost use Rattle.qx_machine.specs.Wants.{difference_wants_memory};
-ghost use Rattle.qx_types.specs.declared.names.Manager.TheVariants as manager;
-ghost use Rattle.qx_resources.specs.Told.{done_at_once, told_io};
+ghost use Rattle.qx_pipes.specs.Pipes.{kind_with};
+ghost use Rattle.qx_resources.specs.Told.{done_at_once, manager_with, told_io};
 
 use crate::resources::Resources;
 use crate::state::Told;
@@ -11,17 +11,33 @@ use crate::{blocks, closing};
 use qx_machine::{NewDup, NewOpen, Opened, PulseWish, Wish};
 use qx_process::{Reply, Room};
 use qx_resmgr::{Connect, Done, Io, no_function};
-use qx_types::{Errno, Manager, NotifyAction, Whence};
+use qx_types::{Device, Errno, Manager, NotifyAction, Whence};
 use qx_wire::Rest;
 use std::alloc::AllocError;
 
-/// The pipe manager.
-pub struct Pipe;
+/// The pipe manager, or a device's.
+#[derive(Drop)]
+pub struct Pipe {
+    pub device: Option<Device>,
+}
+
+impl Pipe {
+    /// Which manager it is.
+    fn manager(&self) -> Manager
+        ensures { result ≡ manager_with self.now.device }
+    {
+        match self.device {
+            None => Manager::Pipe,
+            Some(device) => Manager::Device(device),
+        }
+    }
+}
 
 impl Connect<Resources, Tables, Told> for Pipe {
-    ghost connect = { pipe_connect };
+    ghost connect = { λ manager. pipe_connect (kind_with manager.device) };
 
     fn open(
+        &self,
         state: &mut Resources,
         tables: &mut Tables,
         over: Result<NewOpen, Errno>,
@@ -32,11 +48,13 @@ impl Connect<Resources, Tables, Told> for Pipe {
             Ok(over) => over,
             Err(error) => return Ok(Err(error)),
         };
-        let opened = qx_pipes::open(&mut tables.shared, &mut state.store, over, rest, wish)?;
+        let (shared, store) = (&mut tables.shared, &mut state.store);
+        let opened = qx_pipes::open(shared, store, self.device, over, rest, wish)?;
         Ok(opened.map(|block| blocks::opened(over.coid, block)))
     }
 
     fn stat(
+        &self,
         state: &mut Resources,
         _tables: &mut Tables,
         root: Result<u32, Errno>,
@@ -48,17 +66,20 @@ impl Connect<Resources, Tables, Told> for Pipe {
     }
 
     fn unlink(
+        &self,
         state: &mut Resources,
         tables: &mut Tables,
         root: Result<u32, Errno>,
         rest: &Rest<'_>,
         moment: u64,
     ) -> Result<Done, Errno> {
-        let unlinked = qx_pipes::unlink(&mut tables.shared, &mut state.store, root?, rest, moment);
+        let (shared, store) = (&mut tables.shared, &mut state.store);
+        let unlinked = qx_pipes::unlink(shared, store, self.device, root?, rest, moment);
         unlinked.map(|_| Done::keeps(0))
     }
 
     fn mknod(
+        &self,
         _state: &mut Resources,
         _tables: &mut Tables,
         _root: Result<u32, Errno>,
@@ -73,13 +94,14 @@ impl Connect<Resources, Tables, Told> for Pipe {
 impl Io<Resources, Tables, Told> for Pipe {
     ghost use Rattle.qx_resources.specs.inner.State.{IsCallerReceived};
 
-    ghost io = { told_io };
+    ghost io = { λ manager. told_io (kind_with manager.device) };
 
-    ghost wants = { difference_wants_memory manager.Pipe };
+    ghost wants = { λ manager. difference_wants_memory (manager_with manager.device) };
 
     ghost ready = { IsCallerReceived };
 
     fn read(
+        &self,
         state: &mut Resources,
         tables: &mut Tables,
         opened: Result<Opened, Errno>,
@@ -92,6 +114,7 @@ impl Io<Resources, Tables, Told> for Pipe {
     }
 
     fn write(
+        &self,
         state: &mut Resources,
         tables: &mut Tables,
         opened: Result<Opened, Errno>,
@@ -107,14 +130,16 @@ impl Io<Resources, Tables, Told> for Pipe {
     }
 
     fn close(
+        &self,
         state: &mut Resources,
         tables: &mut Tables,
         opened: Result<Opened, Errno>,
     ) -> Result<Done, Errno> {
-        closing::close(state, tables, Manager::Pipe, opened)
+        closing::close(state, tables, self.manager(), opened)
     }
 
     fn dup(
+        &self,
         state: &mut Resources,
         _tables: &mut Tables,
         dup: Result<NewDup, Errno>,
@@ -123,6 +148,7 @@ impl Io<Resources, Tables, Told> for Pipe {
     }
 
     fn lseek(
+        &self,
         state: &mut Resources,
         _tables: &mut Tables,
         opened: Result<Opened, Errno>,
@@ -133,6 +159,7 @@ impl Io<Resources, Tables, Told> for Pipe {
     }
 
     fn fstat(
+        &self,
         state: &mut Resources,
         _tables: &mut Tables,
         opened: Result<Opened, Errno>,
@@ -142,6 +169,7 @@ impl Io<Resources, Tables, Told> for Pipe {
     }
 
     fn list(
+        &self,
         state: &mut Resources,
         _tables: &mut Tables,
         opened: Result<Opened, Errno>,
@@ -152,6 +180,7 @@ impl Io<Resources, Tables, Told> for Pipe {
     }
 
     fn chmod(
+        &self,
         state: &mut Resources,
         _tables: &mut Tables,
         opened: Result<Opened, Errno>,
@@ -161,6 +190,7 @@ impl Io<Resources, Tables, Told> for Pipe {
     }
 
     fn notify(
+        &self,
         state: &mut Resources,
         tables: &mut Tables,
         opened: Result<Opened, Errno>,

@@ -17,9 +17,10 @@ use std::alloc::AllocError;
 pub struct Ram;
 
 impl Connect<Resources, Tables, Told> for Ram {
-    ghost connect = { ram_connect };
+    ghost connect = { λ _. ram_connect };
 
     fn open(
+        &self,
         state: &mut Resources,
         _tables: &mut Tables,
         over: Result<NewOpen, Errno>,
@@ -39,6 +40,7 @@ impl Connect<Resources, Tables, Told> for Ram {
     }
 
     fn stat(
+        &self,
         state: &mut Resources,
         _tables: &mut Tables,
         root: Result<u32, Errno>,
@@ -50,6 +52,7 @@ impl Connect<Resources, Tables, Told> for Ram {
     }
 
     fn unlink(
+        &self,
         state: &mut Resources,
         _tables: &mut Tables,
         root: Result<u32, Errno>,
@@ -61,6 +64,7 @@ impl Connect<Resources, Tables, Told> for Ram {
     }
 
     fn mknod(
+        &self,
         state: &mut Resources,
         _tables: &mut Tables,
         root: Result<u32, Errno>,
@@ -80,13 +84,14 @@ impl Connect<Resources, Tables, Told> for Ram {
 impl Io<Resources, Tables, Told> for Ram {
     ghost use Rattle.qx_resources.specs.inner.State.{IsCallerReceived};
 
-    ghost io = { ram_io };
+    ghost io = { λ _. ram_io };
 
-    ghost wants = { difference_wants_memory manager.Ram };
+    ghost wants = { λ _. difference_wants_memory manager.Ram };
 
     ghost ready = { IsCallerReceived };
 
     fn read(
+        &self,
         state: &mut Resources,
         _tables: &mut Tables,
         opened: Result<Opened, Errno>,
@@ -98,6 +103,7 @@ impl Io<Resources, Tables, Told> for Ram {
     }
 
     fn write(
+        &self,
         state: &mut Resources,
         _tables: &mut Tables,
         opened: Result<Opened, Errno>,
@@ -113,6 +119,7 @@ impl Io<Resources, Tables, Told> for Ram {
     }
 
     fn close(
+        &self,
         state: &mut Resources,
         tables: &mut Tables,
         opened: Result<Opened, Errno>,
@@ -121,6 +128,7 @@ impl Io<Resources, Tables, Told> for Ram {
     }
 
     fn dup(
+        &self,
         state: &mut Resources,
         _tables: &mut Tables,
         dup: Result<NewDup, Errno>,
@@ -129,6 +137,7 @@ impl Io<Resources, Tables, Told> for Ram {
     }
 
     fn lseek(
+        &self,
         state: &mut Resources,
         _tables: &mut Tables,
         opened: Result<Opened, Errno>,
@@ -139,6 +148,7 @@ impl Io<Resources, Tables, Told> for Ram {
     }
 
     fn fstat(
+        &self,
         state: &mut Resources,
         _tables: &mut Tables,
         opened: Result<Opened, Errno>,
@@ -148,6 +158,7 @@ impl Io<Resources, Tables, Told> for Ram {
     }
 
     fn list(
+        &self,
         state: &mut Resources,
         _tables: &mut Tables,
         opened: Result<Opened, Errno>,
@@ -158,6 +169,7 @@ impl Io<Resources, Tables, Told> for Ram {
     }
 
     fn chmod(
+        &self,
         state: &mut Resources,
         _tables: &mut Tables,
         opened: Result<Opened, Errno>,
@@ -167,6 +179,7 @@ impl Io<Resources, Tables, Told> for Ram {
     }
 
     fn notify(
+        &self,
         state: &mut Resources,
         tables: &mut Tables,
         opened: Result<Opened, Errno>,

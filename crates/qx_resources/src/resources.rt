@@ -1,6 +1,6 @@
 //! What the managers keep for a user, and what messages do to it.
 
-ghost use Rattle.std.specs.Prelude.{◌≡◌, Ok, is_ok, IsSome, IsTrue, IfOk, OnErr, OnOk};
+ghost use Rattle.std.specs.Prelude.{◌≡◌, Ok, is_ok, IsSome, IsTrue, IfNone, IfOk, IfSome, OnErr, OnOk};
 ghost use Rattle.qx_machine.specs.Inodes.{inode_number};
 ghost use Rattle.qx_machine.specs.Mounting as mounting;
 ghost use Rattle.qx_machine.specs.Performing as performing;
@@ -14,10 +14,11 @@ ghost use Rattle.qx_resources.specs.Boot.{kept_of};
 ghost use Rattle.qx_resources.specs.Mounts.{IsNextMount, with_new_root};
 ghost use Rattle.qx_resources.specs.Ranges.{IsInRanges};
 ghost use Rattle.qx_resources.specs.State.{HasUser, state, told};
-ghost use Rattle.qx_resources.specs.Told.{told_by};
+ghost use Rattle.qx_resources.specs.Told.{manager_with, told_by};
 ghost use Rattle.qx_resources.specs.inner.State.{IsCallerReceived};
 ghost use Rattle.qx_resources.specs.declared.tables.Tables.{Tables as AllTables};
 ghost use Rattle.qx_shared.specs.Shared.{shared_after, state_after};
+ghost use Rattle.qx_types.specs.declared.names.Manager.TheVariants as managers;
 
 use crate::pipe::Pipe;
 use crate::ram::Ram;
@@ -142,14 +143,12 @@ impl Resources {
             Meaning::Unknown => return Ok(Err(Errno::ENOSYS)),
             Meaning::Malformed => return Ok(Err(Errno::EINVAL)),
         };
-        match context.target.manager {
-            Manager::Ram => {
-                serve::<Ram, Resources, Tables, Told>(self, all, context, message, reply, room)
-            }
-            Manager::Pipe => {
-                serve::<Pipe, Resources, Tables, Told>(self, all, context, message, reply, room)
-            }
-        }
+        let Some(manager) = pipe_manager(context.target.manager) else {
+            return serve::<Ram, Resources, Tables, Told>(
+                &Ram, self, all, context, message, reply, room,
+            );
+        };
+        serve::<Pipe, Resources, Tables, Told>(&manager, self, all, context, message, reply, room)
     }
 
     /// A thread's call is asked to unblock: if it waits in a pipe, it is answered EINTR, unless it is served as the pipe is
@@ -163,6 +162,20 @@ impl Resources {
         ensures shared { all.new ≡ record all.old { shared = shared_after all.old.shared self.old.user (cancel_call (told self.old all.old) thread.proc.num thread.tid call moment) } }
     {
         qx_pipes::cancel(&mut all.shared, &mut self.store, thread, call, moment)
+    }
+}
+
+/// The manager of pipes, or of a device's rows, that a message goes to, where it isn't that of files.
+fn pipe_manager(manager: Manager) -> Option<Pipe>
+    ensures ram { IfNone result (manager ≡ managers.Ram) }
+    ensures with { IfSome result (λ pipe. manager ≡ manager_with pipe.device) }
+{
+    match manager {
+        Manager::Ram => None,
+        Manager::Pipe => Some(Pipe { device: None }),
+        Manager::Device(device) => Some(Pipe {
+            device: Some(device),
+        }),
     }
 }
 

@@ -92,7 +92,7 @@ module _ (c : Queues) (all : List Rows) (are : AreAllPipes c all) (proc : Proc) 
     row-after =
         let readers = calls-after (place user inode Reading) row.readers (ap (option_map (list_on Reading)) is) in
         let writers = calls-after (place user inode Writing) row.writers (ap (option_map (list_on Writing)) is) in
-        λ i. record { bytes = row.bytes; readers = readers i; writers = writers i }
+        λ i. record { device = row.device; bytes = row.bytes; readers = readers i; writers = writers i }
 
   row-there : (user : ℕ) (rows : Rows) → slice_get all user ≡ Some rows → (inode : ℕ) (row : PipeRow) → row_at rows inode ≡ Some row → row_of all user inode ≡ Some row
   row-there user rows at inode row is = ap (λ (p : Rows). row_at p inode) (get_or_from_slice_get all user rows [] at) ∙ is
@@ -101,7 +101,7 @@ module _ (c : Queues) (all : List Rows) (are : AreAllPipes c all) (proc : Proc) 
   own-pipes rows at =
       rows-agree (shown_pipe after) (λ row. pipe_abandoned proc.num (shown_pipe c row)) rows (λ inode row is.
       row-after proc.user.0 inode row (row-there proc.user.0 rows at inode row is)
-      ∙ (λ i. record { bytes = row.bytes; readers = own-calls (calls_of c row.readers) i; writers = own-calls (calls_of c row.writers) i }))
+      ∙ (λ i. record { device = row.device; bytes = row.bytes; readers = own-calls (calls_of c row.readers) i; writers = own-calls (calls_of c row.writers) i }))
       ∙ twice rows
     where
       twice : (rows : Rows) → map (option_map (λ row. pipe_abandoned proc.num (shown_pipe c row))) rows ≡ map (option_map (pipe_abandoned proc.num)) (map (option_map (shown_pipe c)) rows)
@@ -112,7 +112,7 @@ module _ (c : Queues) (all : List Rows) (are : AreAllPipes c all) (proc : Proc) 
   other-pipes : (user : ℕ) (rows : Rows) → (user ≡ proc.user.0 → ⊥) → slice_get all user ≡ Some rows → pipes_in after rows ≡ pipes_in c rows
   other-pipes user rows apart at = rows-agree (shown_pipe after) (shown_pipe c) rows (λ inode row is.
       row-after user inode row (row-there user rows at inode row is)
-      ∙ (λ i. record { bytes = row.bytes; readers = other-calls user apart (calls_of c row.readers) i; writers = other-calls user apart (calls_of c row.writers) i }))
+      ∙ (λ i. record { device = row.device; bytes = row.bytes; readers = other-calls user apart (calls_of c row.readers) i; writers = other-calls user apart (calls_of c row.writers) i }))
 
   pub abandoned-told : shown_shared after all ≡ with_abandoned_calls (shown_shared c all) proc
   abandoned-told =

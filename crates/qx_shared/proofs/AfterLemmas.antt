@@ -43,7 +43,7 @@ module _ (all : List Pipes) (user inode : ℕ) (there : IsSome (row_at (get_or a
 
 module _ (s : Shared) (user inode : ℕ) (there : HasPipe s user inode) (first : PipeAfter WaitingCall) where
   pub pipe_at-after : pipe_at (with_pipe_after s user inode first) user inode ≡ first.pipe
-  pipe_at-after = ap (λ o. unwrap_or o (pipe_of [] [] [])) (row-put s.pipes user inode there (Some first.pipe))
+  pipe_at-after = ap (λ o. unwrap_or o (pipe_of None [] [] [])) (row-put s.pipes user inode there (Some first.pipe))
 
   pub then-after : (next : Pipe WaitingCall → PipeAfter WaitingCall) → with_pipe_after (with_pipe_after s user inode first) user inode (next (pipe_at (with_pipe_after s user inode first) user inode)) ≡ with_pipe_after s user inode (and_then first next)
   then-after next =

@@ -11,6 +11,7 @@ use Rattle.qx_lists.proofs.MapLemmas.{get-insert_same, get-insert_other, insert-
 use Rattle.qx_types.specs.declared.limits.TheConstants.Limits.{PIPE}
 use Rattle.qx_types.specs.declared.outcome.Answer.{Answer}
 use Rattle.qx_types.specs.declared.outcome.Answer.TheVariants.{Reply}
+use Rattle.qx_devices.specs.declared.Device.{Device}
 use Rattle.qx_machine.specs.declared.rows.WaitingCall.{WaitingCall}
 use Rattle.qx_machine.specs.Waiting.{is_written}
 use Rattle.qx_machine.specs.Pipes.{PipeAfter, Pipe, all_answered, nobody_answered, pipe_of, removed, staying}
@@ -51,7 +52,7 @@ module _ (c d : Queues) (all : List Rows) (user inode : ℕ) where
   pipes-set row within same = told-set c d all user inode row within (λ other at r differs is.
       let readers = calls-agree c d r.readers (same (place other at Reading) r.readers (ap (option_map (list_on Reading)) is) differs) in
       let writers = calls-agree c d r.writers (same (place other at Writing) r.writers (ap (option_map (list_on Writing)) is) differs) in
-      λ i. record { bytes = r.bytes; readers = readers i; writers = writers i })
+      λ i. record { device = r.device; bytes = r.bytes; readers = readers i; writers = writers i })
 
 -- the calls of one list are others
 module _ (c : Queues) (all : List Rows) (are : AreAllPipes c all) (p : Place) (list : ℕ) (is : list_of_place all p ≡ Some list) (calls : List WaitingCall) where
@@ -93,27 +94,31 @@ module _ (c : Queues) (all : List Rows) (are : AreAllPipes c all) (p : Place) (l
 abbrev pub with_bytes_of : List Rows → ℕ → ℕ → List ℕ → List Rows
 with_bytes_of all user inode bytes = with_row_of all user inode (option_map (λ row. row_with_bytes row bytes) (row_of all user inode))
 
-module _ (all : List Rows) (user inode : ℕ) (row : PipeRow) (is : row_of all user inode ≡ Some row) (bytes : List ℕ) where
-  list_on-bytes : (side : Side) → list_on side (row_with_bytes row bytes) ≡ list_on side row
-  list_on-bytes Reading = refl
-  list_on-bytes Writing = refl
+-- a row of the same lists
+abbrev renewed_row : PipeRow → Option Device → List ℕ → PipeRow
+renewed_row row device bytes = record row { device = device; bytes = bytes }
 
-  list_at-bytes : (p : Place) → list_of_place (with_row_of all user inode (Some (row_with_bytes row bytes))) p ≡ list_of_place all p
-  list_at-bytes p = elim (at-cases user inode p) [
-    | inr differs ↦ ap (option_map (list_on p.side)) (row_of-other all user inode (Some (row_with_bytes row bytes)) p.user p.inode differs)
+module _ (all : List Rows) (user inode : ℕ) (row : PipeRow) (is : row_of all user inode ≡ Some row) (device : Option Device) (bytes : List ℕ) where
+  list_on-renewed : (side : Side) → list_on side (renewed_row row device bytes) ≡ list_on side row
+  list_on-renewed Reading = refl
+  list_on-renewed Writing = refl
+
+  list_at-renewed : (p : Place) → list_of_place (with_row_of all user inode (Some (renewed_row row device bytes))) p ≡ list_of_place all p
+  list_at-renewed p = elim (at-cases user inode p) [
+    | inr differs ↦ ap (option_map (list_on p.side)) (row_of-other all user inode (Some (renewed_row row device bytes)) p.user p.inode differs)
     | inl at ↦
         let within = row_of-within all user inode row is in
-        rw (at.0, at.1) (ap (option_map (list_on p.side)) (row_of-same all user inode (Some (row_with_bytes row bytes)) within.0 within.1) ∙ ap Some (list_on-bytes p.side) ∙ ap (option_map (list_on p.side)) (sym is))
+        rw (at.0, at.1) (ap (option_map (list_on p.side)) (row_of-same all user inode (Some (renewed_row row device bytes)) within.0 within.1) ∙ ap Some (list_on-renewed p.side) ∙ ap (option_map (list_on p.side)) (sym is))
   ]
 
-  pub bytes-all : (c : Queues) → AreAllPipes c all → AreAllPipes c (with_row_of all user inode (Some (row_with_bytes row bytes)))
-  bytes-all c are = record {
+  renewed-all : (c : Queues) → AreAllPipes c all → AreAllPipes c (with_row_of all user inode (Some (renewed_row row device bytes)))
+  renewed-all c are = record {
     count = length-set all user _ ∙ are.count;
-    places = λ other within. rows-length all user inode (Some (row_with_bytes row bytes)) other ∙ are.places other (rw length-set at within);
-    there = λ p list at. are.there p list (sym (list_at-bytes p) ∙ at);
-    users = λ p list at. are.users p list (sym (list_at-bytes p) ∙ at);
-    apart = λ p q list at also. are.apart p q list (sym (list_at-bytes p) ∙ at) (sym (list_at-bytes q) ∙ also);
-    owned = λ list there. let own = are.owned list there in (own.0, list_at-bytes own.0 ∙ own.1);
+    places = λ other within. rows-length all user inode (Some (renewed_row row device bytes)) other ∙ are.places other (rw length-set at within);
+    there = λ p list at. are.there p list (sym (list_at-renewed p) ∙ at);
+    users = λ p list at. are.users p list (sym (list_at-renewed p) ∙ at);
+    apart = λ p q list at also. are.apart p q list (sym (list_at-renewed p) ∙ at) (sym (list_at-renewed q) ∙ also);
+    owned = λ list there. let own = are.owned list there in (own.0, list_at-renewed own.0 ∙ own.1);
   }
 
 -- ---- a pipe is another
@@ -133,8 +138,8 @@ opposite-not Writing same = absurd (cc)
 
 pipe-relisted : (c d : Queues) (side : Side) (row : PipeRow) (bytes : List ℕ) (calls : List WaitingCall) → calls_of d (list_on side row) ≡ calls → calls_of d (list_on (opposite side) row) ≡ calls_of c (list_on (opposite side) row) →
     shown_pipe d (row_with_bytes row bytes) ≡ with_waiting_on side calls (record (shown_pipe c row) { bytes = bytes })
-pipe-relisted c d Reading row bytes calls own other = λ i. record { bytes = bytes; readers = own i; writers = other i }
-pipe-relisted c d Writing row bytes calls own other = λ i. record { bytes = bytes; readers = other i; writers = own i }
+pipe-relisted c d Reading row bytes calls own other = λ i. record { device = row.device; bytes = bytes; readers = own i; writers = other i }
+pipe-relisted c d Writing row bytes calls own other = λ i. record { device = row.device; bytes = bytes; readers = other i; writers = own i }
 
 pub no_answers : (c : Queues) → with_more_answers c [] ≡ c
 no_answers c = ap (λ a. record c { answered = a }) (append-nil c.answered)
@@ -154,7 +159,7 @@ filter-mapped f which (x ∷ xs) = by (which (f x)) (filter-mapped f which xs)
 pub nobody-waits : (c : Queues) (all : List Rows) (user inode : ℕ) (side : Side) → row_of all user inode ≡ None → slice_get (waiting_on side (pipe_at (shown_shared c all) user inode)) 0 ≡ None
 nobody-waits c all user inode side none = ap (λ p. slice_get (waiting_on side p) 0) (pipe_at-row c all user inode None none) ∙ of side
   where
-    of : (side : Side) → slice_get (waiting_on side (pipe_of [] [] [])) 0 ≡ None
+    of : (side : Side) → slice_get (waiting_on side (pipe_of None [] [] [])) 0 ≡ None
     of Reading = refl
     of Writing = refl
 
@@ -196,7 +201,7 @@ module _ (c : Queues) (all : List Rows) (are : AreAllPipes c all) (user inode : 
       Became c d all new user inode (record { pipe = with_waiting_on side calls (record old { bytes = bytes }); answers = answers })
   changed bytes calls answers d new queues rows = record {
     told_is = ap₂ shown_shared queues rows_are ∙ (λ i. record { lines = c.lines; threads = c.threads; servers = c.servers; room = c.room; pipes = pipes i; answered = c.answered ++ map (users_given user) answers });
-    all_are = rw (queues, rows_are) (all-same next (with_more_answers next (map (users_given user) answers)) _ refl refl (bytes-all all user inode row_there.0 row_there.1 bytes next (relisted-all c all are here list is calls)));
+    all_are = rw (queues, rows_are) (all-same next (with_more_answers next (map (users_given user) answers)) _ refl refl (renewed-all all user inode row_there.0 row_there.1 row_there.0.device bytes next (relisted-all c all are here list is calls)));
   }
     where
       here : Place
@@ -270,6 +275,18 @@ module _ (c : Queues) (all : List Rows) (are : AreAllPipes c all) (user inode : 
       let readers : list_of_place all (place user inode Reading) ≡ Some row.readers = ap (option_map (list_on Reading)) is in
       changed c all are user inode Reading row.readers readers bytes (waiting c all are user inode Reading row.readers readers) answers d new (queues ∙ ap (λ q. with_more_answers q (map (users_given user) answers)) (sym (same-calls c all are user inode Reading row.readers readers))) rows
 
+  -- another stands there, with no bytes
+  pub renewed : (device : Option Device) (new : List Rows) → new ≡ with_row_of all user inode (Some (renewed_row row device [])) → Became c c all new user inode (nobody_answered (record (pipe_at (shown_shared c all) user inode) { device = device; bytes = [] }))
+  renewed device new rows =
+      let within = (row_of-within all user inode row is).0 in
+      let pipes =
+      pipes-set c c all user inode (Some (renewed_row row device [])) within (λ p list at differs. refl)
+      ∙ ap (λ (p : Pipe WaitingCall). slice_set (map (pipes_in c) all) user (slice_set (pipes_of (shown_shared c all) user) inode (Some (record p { device = device; bytes = [] })))) (sym (pipe_at-told c all user inode row is)) in
+      record {
+        told_is = ap (shown_shared c) rows ∙ (λ i. record (shown_shared c all) { pipes = pipes i; answered = sym (append-nil c.answered) i });
+        all_are = rw rows (renewed-all all user inode row is device [] c are);
+      }
+
   -- the first of its bytes
   pub stand : (count : ℕ) → count ≤ length (pipe_at (shown_shared c all) user inode).bytes → count ≤ length row.bytes
   stand count within = rw (pipe_at-told c all user inode row is) at within
@@ -279,7 +296,7 @@ module _ (c : Queues) (all : List Rows) (are : AreAllPipes c all) (user inode : 
 
   -- as a change of the user's pipes gives them
   module _ (own : Rows) (read : own ≡ get_or all user own) where
-    own-is : own ≡ get_or all user []
+    pub own-is : own ≡ get_or all user []
     own-is = read ∙ get_or_default all user own [] (row_of-within all user inode row is).0
 
     pub own-row : row_at own inode ≡ Some row
@@ -290,6 +307,11 @@ module _ (c : Queues) (all : List Rows) (are : AreAllPipes c all) (user inode : 
 
     pub fits : (more : ℕ) → length (pipe_at (shown_shared c all) user inode).bytes + more ≤ PIPE → IfSome (row_at own inode) (λ row. length row.bytes + more ≤ PIPE)
     fits more within = rw own-row (rw (pipe_at-told c all user inode row is) at within)
+
+    pub put-renewed : (changed : Rows) (device : Option Device) → IfSome (row_at own inode) (λ row. changed ≡ slice_set own inode (Some (renewed_row row device []))) → slice_set all user changed ≡ with_row_of all user inode (Some (renewed_row row device []))
+    put-renewed changed device put =
+        let put_is : changed ≡ slice_set own inode (Some (renewed_row row device [])) = rw own-row at put in
+        ap (slice_set all user) (put_is ∙ ap (λ (p : Rows). slice_set p inode (Some (renewed_row row device []))) own-is)
 
     pub put-bytes : (changed : Rows) (change : List ℕ → List ℕ) → IfSome (row_at own inode) (λ row. changed ≡ slice_set own inode (Some (row_with_bytes row (change row.bytes)))) → slice_set all user changed ≡ with_bytes_of all user inode (change (pipe_at (shown_shared c all) user inode).bytes)
     put-bytes changed change put =

@@ -63,8 +63,8 @@ has_row c all user inode there = of (row_of all user inode) refl
     of (Some row) is = (row, is)
     of None is = absurd (absent_is (row_at (pipes_of (shown_shared c all) user) inode) there (row_of-told c all user inode ∙ ap (option_map (shown_pipe c)) is))
 
-pub pipe_at-row : (c : Queues) (all : List Rows) (user inode : ℕ) (o : Option PipeRow) → row_of all user inode ≡ o → pipe_at (shown_shared c all) user inode ≡ unwrap_or (option_map (shown_pipe c) o) (pipe_of [] [] [])
-pipe_at-row c all user inode o is = ap (λ o. unwrap_or o (pipe_of [] [] [])) (row_of-told c all user inode ∙ ap (option_map (shown_pipe c)) is)
+pub pipe_at-row : (c : Queues) (all : List Rows) (user inode : ℕ) (o : Option PipeRow) → row_of all user inode ≡ o → pipe_at (shown_shared c all) user inode ≡ unwrap_or (option_map (shown_pipe c) o) (pipe_of None [] [] [])
+pipe_at-row c all user inode o is = ap (λ o. unwrap_or o (pipe_of None [] [] [])) (row_of-told c all user inode ∙ ap (option_map (shown_pipe c)) is)
 
 pub pipe_at-told : (c : Queues) (all : List Rows) (user inode : ℕ) (row : PipeRow) → row_of all user inode ≡ Some row → pipe_at (shown_shared c all) user inode ≡ shown_pipe c row
 pipe_at-told c all user inode row is = pipe_at-row c all user inode (Some row) is

@@ -6,6 +6,7 @@ use Rattle.std.proofs.lemmas.List.{get_or_default, length-map, length-set}
 use Rattle.std.proofs.lemmas.Option.{same_Some}
 use Rattle.qx_lists.proofs.MapLemmas.{get-insert_same, get-insert_other, get-remove_same, get-remove_other, same_map}
 use Rattle.qx_types.specs.declared.limits.TheConstants.Limits.{INODES}
+use Rattle.qx_devices.specs.declared.Device.{Device}
 use Rattle.qx_machine.specs.Pipes.{pipe_of}
 use Rattle.qx_isolation.specs.Rows.{row_at}
 use Rattle.qx_queues.specs.Queues.{HasList, Queues, UsersCall, waiting_in_list, with_waiting, without_list}
@@ -81,12 +82,12 @@ put-row all user inode own changed row within read put = ap (slice_set all user)
 
 -- ---- a new pipe
 
-module _ (c : Queues) (all : List Rows) (are : AreAllPipes c all) (user inode : ℕ) (within : user < length (shown_shared c all).pipes) (few : inode ≤ INODES) (none : row_at (pipes_of (shown_shared c all) user) inode ≡ None) (readers writers : ℕ) (new_readers : maps.get c.pipes readers ≡ None) (new_writers : maps.get (with_waiting c readers []).pipes writers ≡ None) where
+module _ (c : Queues) (all : List Rows) (are : AreAllPipes c all) (user inode : ℕ) (within : user < length (shown_shared c all).pipes) (few : inode ≤ INODES) (none : row_at (pipes_of (shown_shared c all) user) inode ≡ None) (device : Option Device) (readers writers : ℕ) (new_readers : maps.get c.pipes readers ≡ None) (new_writers : maps.get (with_waiting c readers []).pipes writers ≡ None) where
   abbrev made : Queues
   made = with_waiting (with_waiting c readers []) writers []
 
   abbrev made_row : PipeRow
-  made_row = record { bytes = []; readers = readers; writers = writers }
+  made_row = record { device = device; bytes = []; readers = readers; writers = writers }
 
   no_row : row_of all user inode ≡ None
   no_row = of (row_of all user inode) (sym (row_of-told c all user inode) ∙ none)
@@ -148,15 +149,15 @@ module _ (c : Queues) (all : List Rows) (are : AreAllPipes c all) (user inode : 
     ];
   }
 
-  added-told : shown_shared made (with_row_of all user inode (Some made_row)) ≡ with_row_at (shown_shared c all) user inode (Some (pipe_of [] [] []))
+  added-told : shown_shared made (with_row_of all user inode (Some made_row)) ≡ with_row_at (shown_shared c all) user inode (Some (pipe_of device [] [] []))
   added-told =
       let calls : (side : Side) → calls_of made (list_on side made_row) ≡ [] = λ side. ap (λ o. map (λ own. own.call) (unwrap_or o [])) (got side) in
       let pipes =
       pipes-set c made all user inode (Some made_row) placed.within placed.others
-      ∙ (λ i. slice_set (map (pipes_in c) all) user (slice_set (pipes_of (shown_shared c all) user) inode (Some (pipe_of [] (calls Reading i) (calls Writing i))))) in
+      ∙ (λ i. slice_set (map (pipes_in c) all) user (slice_set (pipes_of (shown_shared c all) user) inode (Some (pipe_of device [] (calls Reading i) (calls Writing i))))) in
       λ i. record (shown_shared c all) { pipes = pipes i }
 
-  pub added : (d : Queues) (own changed : Rows) → d ≡ made → own ≡ get_or all user own → changed ≡ slice_set own inode (Some made_row) → (shown_shared d (slice_set all user changed) ≡ with_row_at (shown_shared c all) user inode (Some (pipe_of [] [] []))) × AreAllPipes d (slice_set all user changed)
+  pub added : (d : Queues) (own changed : Rows) → d ≡ made → own ≡ get_or all user own → changed ≡ slice_set own inode (Some made_row) → (shown_shared d (slice_set all user changed) ≡ with_row_at (shown_shared c all) user inode (Some (pipe_of device [] [] []))) × AreAllPipes d (slice_set all user changed)
   added d own changed queues read put =
       let rows = put-row all user inode own changed (Some made_row) placed.within read put in
       (ap₂ shown_shared queues rows ∙ added-told, rw (queues, rows) (placed-all c made all user inode (Some made_row) are placed))

@@ -3,6 +3,8 @@ use Rattle.std.specs.Prelude.{◌≡◌, ℕ, zero, suc, unwrap_or, IsSome, ◌+
 use Rattle.std.specs.Coded.{Coded, code_by, coded×, coded_ℕ, coded_list, coded_option}
 use Rattle.std.specs.FinSet as set
 use Rattle.std.specs.List.{flat_map, list_any}
+use Rattle.qx_devices.specs.contracts.Device as device_row
+use Rattle.qx_devices.specs.declared.Device.{Device}
 use Rattle.qx_types.specs.contracts.names.Proc as proc_row
 use Rattle.qx_types.specs.contracts.names.Thread as thread_row
 use Rattle.qx_types.specs.Managers.{manager_number}
@@ -21,8 +23,8 @@ use Rattle.qx_machine.specs.Clients.{with_abandoned}
 use Rattle.qx_machine.specs.Functions.{Deed}
 use Rattle.qx_isolation.specs.Lines.{into, line_at, with_line}
 use Rattle.qx_machine.specs.Machine.{rank}
-use Rattle.qx_machine.specs.Waiting.{Pipes, is_written, no_pipes}
-use Rattle.qx_machine.specs.Pipes.{PipeAfter, Pipe, pipe_of, readers_dismissed, writers_dismissed}
+use Rattle.qx_machine.specs.Waiting.{Pipes, is_written, no_pipes, offered, wanted}
+use Rattle.qx_machine.specs.Pipes.{PipeAfter, Pipe, nobody_answered, one_answered, pipe_of, read_told, readers_dismissed, write_told, writers_dismissed}
 use Rattle.qx_machine.specs.Resources.{Resources}
 use Rattle.qx_isolation.specs.Rows.{row_at}
 use Rattle.qx_queues.specs.Queues.{UsersAnswer, UsersCall, answer_code, answer_to, caller, disconnect_of, has_call, has_answer_among, nodes_freed, server_cmp, stands, thread_cmp}
@@ -44,10 +46,10 @@ pub record Shared : Type 0 where
 abbrev pub pipe_code : Coded (Pipe WaitingCall)
 pipe_code =
     code_by
-    (List ℕ × (List WaitingCall × List WaitingCall))
-    (coded× (coded_list coded_ℕ) (coded× (coded_list (call_row.the_row).coded) (coded_list (call_row.the_row).coded)))
-    (λ p. (p.bytes, (p.readers, p.writers)))
-    (λ p. record { bytes = p.0; readers = p.1.0; writers = p.1.1 })
+    (Option Device × (List ℕ × (List WaitingCall × List WaitingCall)))
+    (coded× (coded_option (device_row.the_row).coded) (coded× (coded_list coded_ℕ) (coded× (coded_list (call_row.the_row).coded) (coded_list (call_row.the_row).coded))))
+    (λ p. (p.device, (p.bytes, (p.readers, p.writers))))
+    (λ p. record { device = p.0; bytes = p.1.0; readers = p.1.1.0; writers = p.1.1.1 })
     (λ _. refl)
 
 abbrev pub all_pipes_code : Coded (List Pipes)
@@ -177,7 +179,7 @@ HasPipe c user inode = IsSome (row_at (pipes_of c user) inode)
 
 -- the pipe of an inode of a user; one with no bytes, in which nobody waits, where there is none
 abbrev pub pipe_at : Shared → ℕ → ℕ → Pipe WaitingCall
-pipe_at c user inode = unwrap_or (row_at (pipes_of c user) inode) (pipe_of [] [] [])
+pipe_at c user inode = unwrap_or (row_at (pipes_of c user) inode) (pipe_of None [] [] [])
 
 -- another pipe stands under the number of an inode of a user, or none
 abbrev pub with_row_at : Shared → ℕ → ℕ → Option (Pipe WaitingCall) → Shared
@@ -217,6 +219,28 @@ passed_to count readers p = record { pipe = record p { bytes = drop count p.byte
 -- the bytes of these, of whom there is one at most, go in last
 abbrev pub taken_from : List WaitingCall → Pipe WaitingCall → PipeAfter WaitingCall
 taken_from writers p = record { pipe = record p { bytes = p.bytes ++ flat_map (λ writer. writer.bytes) writers }; answers = map (λ writer. (writer, Reply (length writer.bytes) [])) writers }
+
+-- ---- a device
+
+-- what the first of these calls comes to
+abbrev pub at_first : (WaitingCall → Option (Answer × List ℕ)) → List WaitingCall → Option (Answer × List ℕ)
+at_first told [] = None
+at_first told (first ∷ rest) = told first
+
+-- what the first call of a side comes to by the bytes that stand
+abbrev pub first_told : Side → Pipe WaitingCall → Option (Answer × List ℕ)
+first_told Reading p = at_first (read_told wanted offered p.device p.bytes) p.readers
+first_told Writing p = at_first (write_told wanted offered p.device p.bytes) p.writers
+
+-- the first call of a side is answered so, if at all, and these bytes stand then
+abbrev pub after_told : Side → Pipe WaitingCall → Option (Answer × List ℕ) → PipeAfter WaitingCall
+after_told side p None = nobody_answered p
+after_told side p (Some (answer, bytes)) = record { pipe = with_waiting_on side (drop 1 (waiting_on side p)) (record p { bytes = bytes }); answers = map (λ call. (call, answer)) (take 1 (waiting_on side p)) }
+
+-- a call that does not wait is answered so, if at all, and these bytes stand then
+abbrev pub after_own : WaitingCall → Pipe WaitingCall → Option (Answer × List ℕ) → PipeAfter WaitingCall
+after_own call p None = nobody_answered p
+after_own call p (Some (answer, bytes)) = one_answered call answer (record p { bytes = bytes })
 
 -- whether bytes go in with these answers
 abbrev pub went_in : List (WaitingCall × Answer) → Bool

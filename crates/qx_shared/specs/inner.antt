@@ -1,3 +1,4 @@
+pub mod Content
 pub mod Lends
 pub mod Own
 pub mod Row

@@ -15,5 +15,6 @@ pub mod row;
 pub mod shared;
 pub mod side;
 
+pub use row::Blank;
 pub use shared::Shared;
 pub use side::Side;

@@ -1,25 +1,30 @@
 //! The pipes of all users, one at a time but where a process ends: each call makes of one pipe what it says, and leaves all
 //! others.
 
-ghost use Rattle.std.specs.Prelude.{◌≡◌, ◌<◌, ◌≤◌, ◌+◌, ◌++◌, ◌∷◌, [], None, Some, IfNone, IfSome, IsTrue, OnErr, OnOk, false, ℕ, drop, is_some, length, map, slice_get, take};
+ghost use Rattle.std.specs.Prelude.{◌≡◌, ◌<◌, ◌≤◌, ◌+◌, ◌++◌, ◌∷◌, [], None, Some, IfErr, IfNone, IfOk, IfSome, IsSome, IsTrue, OnErr, OnOk, false, ℕ, drop, is_some, length, map, slice_get, slice_set, take};
 ghost use Rattle.std.specs.List.{flat_map};
 ghost use Rattle.std.specs.Option.{option_copied};
 ghost use Rattle.std.specs.Result.{ForOk};
-ghost use Rattle.qx_machine.specs.Waiting.{holds, is_call, is_written};
-ghost use Rattle.qx_machine.specs.Pipes.{nobody_answered, pipe_of, removed};
+ghost use Rattle.qx_device.specs.Verdict.{left_by};
+ghost use Rattle.qx_machine.specs.Notification.{conditions_of};
+ghost use Rattle.qx_machine.specs.Verdicts.{read_of, write_of};
+ghost use Rattle.qx_machine.specs.Waiting.{holds, is_call, is_written, offered, wanted};
+ghost use Rattle.qx_machine.specs.Pipes.{nobody_answered, pipe_of, read_told, removed};
 ghost use Rattle.qx_isolation.specs.Rows.{row_at};
 ghost use Rattle.qx_machine.specs.Settling as settling;
 ghost use Rattle.qx_queues.specs.Waits.{handed, leaves};
-ghost use Rattle.qx_shared.specs.inner.Row.{HasRow, list_of_place, place, row_of};
-ghost use Rattle.qx_shared.specs.Shared.{HasPipe, IsCallReceived, dismissed_on, passed_to, pipe_at, pipes_of, taken_from, waiting_on, went_in, with_abandoned_calls, with_pipe_after, with_answer_to, with_row_at, with_waiting_on};
+ghost use Rattle.qx_shared.specs.inner.Row.{HasRow, bytes_at, list_of_place, place, row_of, row_with_bytes, verdict_on};
+ghost use Rattle.qx_shared.specs.Shared.{HasPipe, IsCallReceived, after_own, after_told, dismissed_on, first_told, passed_to, pipe_at, pipes_of, taken_from, waiting_on, went_in, with_abandoned_calls, with_pipe_after, with_answer_to, with_row_at, with_waiting_on};
 ghost use Rattle.qx_types.specs.declared.limits.TheConstants.Limits.{INODES, PIPE, TRANSFER};
 
-use crate::row::{PipeRow, UserPipes};
+use crate::row::{Blank, PipeRow, UserPipes};
 use crate::shared::Shared;
 use crate::side::Side;
-use circular_buffer::HeapCircularBuffer;
+use qx_device::{Given, Told};
+use qx_machine::{Conditions, Sides};
+use qx_process::Reply;
 use qx_queues::{Leaving, PipeCall};
-use qx_types::{Errno, Limits, Proc, Thread, User};
+use qx_types::{Device, Errno, Proc, Thread, User};
 use std::alloc::AllocError;
 
 impl Shared {
@@ -31,27 +36,58 @@ impl Shared {
         row(&self.pipes, user, inode).is_some()
     }
 
-    /// Makes a pipe with no bytes, in which nobody waits, under the number of an inode that has none.
-    pub fn add_pipe(&mut self, user: User, inode: u32) -> Result<(), AllocError>
+    /// The device that stands under the number of an inode; none of a pipe, and where nothing stands.
+    pub fn device(&self, user: User, inode: u32) -> Option<Device>
+        ensures device { result ≡ (pipe_at self.now user.0 inode).device }
+    {
+        match row(&self.pipes, user, inode) {
+            Some(row) => row.device(),
+            None => None,
+        }
+    }
+
+    /// Makes a pipe or a device with no bytes, in which nobody waits, under the number of an inode that has none.
+    pub fn add_pipe(
+        &mut self,
+        user: User,
+        inode: u32,
+        device: Option<Device>,
+    ) -> Result<(), AllocError>
         requires user { user.0 < length self.old.pipes }
         requires inode { inode ≤ INODES }
         requires none { row_at (pipes_of self.old user.0) inode ≡ None }
-        ensures ok { OnOk result (self.new ≡ with_row_at self.old user.0 inode (Some (pipe_of [] [] []))) }
+        ensures ok { OnOk result (self.new ≡ with_row_at self.old user.0 inode (Some (pipe_of device [] [] []))) }
         ensures err { OnErr result (self.new ≡ self.old) }
     {
-        let bytes = HeapCircularBuffer::with_capacity(*self.pipes.allocator(), Limits::PIPE)?;
+        let blank = self.blank(device)?;
         let readers = self.queues.add_list()?;
         match self.queues.add_list() {
             Ok(writers) => {
-                let row = PipeRow::new(bytes, readers, writers);
+                let row = PipeRow::new(blank, readers, writers);
                 self.pipes[user.0 as usize].set(inode, row);
                 Ok(())
             }
             Err(error) => {
+                drop(blank);
                 self.queues.free_list(readers);
                 Err(error)
             }
         }
+    }
+
+    /// Memory for the bytes of a pipe or of a device.
+    pub fn blank(&self, device: Option<Device>) -> Result<Blank, AllocError>
+        ensures blank { IfOk result (λ blank. blank ≡ device) }
+    {
+        Blank::new(*self.pipes.allocator(), device)
+    }
+
+    /// A pipe or a device with no bytes stands in place of what stood; the calls that wait there wait on.
+    pub fn renew(&mut self, user: User, inode: u32, blank: Blank)
+        requires pipe { HasPipe self.old user.0 inode }
+        ensures { self.new ≡ with_pipe_after self.old user.0 inode (nobody_answered (record (pipe_at self.old user.0 inode) { device = blank; bytes = [] })) }
+    {
+        self.pipes[user.0 as usize].renew(inode, blank);
     }
 
     /// A pipe goes, with its bytes; the calls that wait in it wait nowhere then.
@@ -74,6 +110,20 @@ impl Shared {
         match row(&self.pipes, user, inode) {
             Some(row) => row.len(),
             None => 0,
+        }
+    }
+
+    /// Which conditions hold of what an inode is that has open control blocks for these sides: of a pipe, of a device, or of
+    /// neither, of which both hold (C Library Reference: `ionotify`).
+    pub fn conditions(&self, user: User, inode: u32, sides: Sides) -> Conditions
+        ensures conditions { result ≡ conditions_of sides (row_at (pipes_of self.now user.0) inode) }
+    {
+        match row(&self.pipes, user, inode) {
+            Some(row) => row.conditions(sides),
+            None => Conditions {
+                input: true,
+                output: true,
+            },
         }
     }
 
@@ -265,6 +315,74 @@ impl Shared {
         count != 0
     }
 
+    /// The first call that waits on a side of a device is answered what the device says, if it says anything; tells whether that
+    /// takes the bytes that it writes.
+    pub fn serve_first(&mut self, user: User, inode: u32, side: Side) -> Option<bool>
+        requires pipe { HasPipe self.old user.0 inode }
+        requires device { IsSome (pipe_at self.old user.0 inode).device }
+        ensures told { is_some result ≡ is_some (first_told side (pipe_at self.old user.0 inode)) }
+        ensures served { self.new ≡ with_pipe_after self.old user.0 inode (after_told side (pipe_at self.old user.0 inode) (first_told side (pipe_at self.old user.0 inode))) }
+        ensures written { IfSome result (λ written. written ≡ went_in (after_told side (pipe_at self.old user.0 inode) (first_told side (pipe_at self.old user.0 inode))).answers) }
+        ensures same { IfNone result (self.new ≡ self.old) }
+    {
+        self.spare.clear();
+        let list = list(&self.pipes, user, inode, side);
+        let call = self.queues.first_waiting(list)?;
+        let rows = &mut self.pipes[user.0 as usize];
+        match ask(rows, inode, side, call, &mut self.spare) {
+            Told::Waits => None,
+            Told::Gives(status) => Some(self.queues.reply_first(list, status, &mut self.spare)),
+            Told::Fails(error) => Some(self.queues.answer_first(list, Err(error))),
+        }
+    }
+
+    /// A read of a device by a call whose message was received, before which no reader waits: it is answered what the device
+    /// says, or comes back where it has to wait; tells whether that takes the bytes that it writes.
+    pub fn serve_read(&mut self, user: User, inode: u32, call: PipeCall) -> Result<bool, PipeCall>
+        requires pipe { HasPipe self.old user.0 inode }
+        requires device { IsSome (pipe_at self.old user.0 inode).device }
+        requires received { IsCallReceived self.old user.0 call }
+        ensures told { IfOk result (λ written. IsSome (read_told wanted offered (pipe_at self.old user.0 inode).device (pipe_at self.old user.0 inode).bytes call)) }
+        ensures served { IfOk result (λ written. self.new ≡ with_pipe_after self.old user.0 inode (after_own call (pipe_at self.old user.0 inode) (read_told wanted offered (pipe_at self.old user.0 inode).device (pipe_at self.old user.0 inode).bytes call))) }
+        ensures written { IfOk result (λ written. written ≡ went_in (after_own call (pipe_at self.old user.0 inode) (read_told wanted offered (pipe_at self.old user.0 inode).device (pipe_at self.old user.0 inode).bytes call)).answers) }
+        ensures waits { IfErr result (λ back. (back ≡ call) × (read_told wanted offered (pipe_at self.old user.0 inode).device (pipe_at self.old user.0 inode).bytes call ≡ None) × (self.new ≡ self.old)) }
+    {
+        self.spare.clear();
+        let rows = &mut self.pipes[user.0 as usize];
+        match rows.read(inode, call.wanted(), &mut self.spare) {
+            Told::Waits => Err(call),
+            Told::Gives(status) => {
+                Ok(self.queues.reply_given(user, call, status, &mut self.spare))
+            }
+            Told::Fails(error) => Ok(self.queues.answer(user, call, Err(error))),
+        }
+    }
+
+    /// A read of a device by a call that does not wait: what it is told, and the bytes that it is given, which are the reply's.
+    pub fn read_device(&mut self, user: User, inode: u32, count: u32, reply: &mut Reply) -> Told
+        requires pipe { HasPipe self.old user.0 inode }
+        requires device { IsSome (pipe_at self.old user.0 inode).device }
+        requires empty { reply.old ≡ [] }
+        ensures left { record { told = result; bytes = reply.new; state = (pipe_at self.new user.0 inode).bytes } ≡ left_by (pipe_at self.old user.0 inode).bytes (read_of (pipe_at self.old user.0 inode).device count (pipe_at self.old user.0 inode).bytes) }
+        ensures others { self.new ≡ with_pipe_after self.old user.0 inode (nobody_answered (record (pipe_at self.old user.0 inode) { bytes = (pipe_at self.new user.0 inode).bytes })) }
+    {
+        self.spare.clear();
+        let told = self.pipes[user.0 as usize].read(inode, count, &mut self.spare);
+        reply.take(&mut self.spare);
+        told
+    }
+
+    /// A write of bytes to a device by a call that does not wait: what it is told.
+    pub fn write_device(&mut self, user: User, inode: u32, bytes: &[u8]) -> Told
+        requires pipe { HasPipe self.old user.0 inode }
+        requires device { IsSome (pipe_at self.old user.0 inode).device }
+        requires few { length bytes.now ≤ TRANSFER }
+        ensures left { record { told = result; bytes = []; state = (pipe_at self.new user.0 inode).bytes } ≡ left_by (pipe_at self.old user.0 inode).bytes (write_of (pipe_at self.old user.0 inode).device bytes.now (pipe_at self.old user.0 inode).bytes) }
+        ensures others { self.new ≡ with_pipe_after self.old user.0 inode (nobody_answered (record (pipe_at self.old user.0 inode) { bytes = (pipe_at self.new user.0 inode).bytes })) }
+    {
+        self.pipes[user.0 as usize].write(inode, bytes)
+    }
+
     /// So many of the first bytes that stand in a pipe, in two pieces.
     pub fn front(&self, user: User, inode: u32, count: usize) -> (&[u8], &[u8])
         requires pipe { HasPipe self.now user.0 inode }
@@ -319,6 +437,19 @@ fn first_bytes(pipes: &[UserPipes], user: User, inode: u32, count: usize) -> (&[
         unreachable!();
     };
     row.first_bytes(count)
+}
+
+/// What a call on a side of a device is told, as the device says; the bytes that it is given go into a buffer.
+fn ask(rows: &mut UserPipes, inode: u32, side: Side, call: &PipeCall, given: &mut Given) -> Told
+    requires device { IfSome (row_at rows.old inode) (λ row. IsSome row.device) }
+    requires none { given.old ≡ [] }
+    ensures left { IfSome (row_at rows.old inode) (λ row. record { told = result; bytes = given.new; state = bytes_at rows.new inode } ≡ left_by row.bytes (verdict_on side call.now row.device row.bytes)) }
+    ensures others { IfSome (row_at rows.old inode) (λ row. rows.new ≡ slice_set rows.old inode (Some (row_with_bytes row (bytes_at rows.new inode)))) }
+{
+    match side {
+        Side::Reading => rows.read(inode, call.wanted(), given),
+        Side::Writing => rows.write(inode, call.bytes()),
+    }
 }
 
 /// In which list calls wait on a side of a pipe.

@@ -14,6 +14,7 @@ ghost use Rattle.qx_shared.specs.Shared.{HasNoCall, HasThread, has_disconnect_no
 
 use crate::row::UserPipes;
 use qx_machine::{Queued, ServerName};
+use qx_process::Room;
 use qx_queues::{Answered, Queues};
 use qx_types::{Limits, Manager, Prio, Proc, Thread};
 use std::alloc::{AllocError, Global};
@@ -25,6 +26,8 @@ use std::marker::Model;
 pub struct Shared {
     pub(crate) queues: Queues,
     pub(crate) pipes: Vec<UserPipes>,
+    /// Into which a device's bytes are read.
+    pub(crate) spare: Room,
 }
 
 impl Model for Shared {
@@ -46,13 +49,18 @@ impl Shared {
         requires few { users < 256 }
         ensures empty { IfOk result (λ shared. shared ≡ nothing_shared users) }
     {
+        let spare = Room::new(alloc)?;
         let queues = Queues::new(alloc, users)?;
         let mut pipes = Vec::new(alloc);
         'users: for _ in 0..users + 1 {
             let none = UserPipes::new(alloc)?;
             pipes.push(none)?;
         }
-        Ok(Shared { queues, pipes })
+        Ok(Shared {
+            queues,
+            pipes,
+            spare,
+        })
     }
 
     /// Puts a thread's message, which stands in no line, into a line (C Library Reference: `MsgSend`).

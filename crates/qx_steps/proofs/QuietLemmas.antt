@@ -5,8 +5,8 @@ use Rattle.std.proofs.lemmas.Bool.{cases_eq, cond_both}
 use Rattle.std.proofs.lemmas.Option.{same_Some}
 use Rattle.qx_types.specs.Configuration.{Configuration}
 use Rattle.qx_types.specs.Step.{actor_of, user_of}
-use Rattle.qx_types.specs.declared.errno.Errno.{Errno}
-use Rattle.qx_types.specs.declared.errno.Errno.TheVariants.{EINTR}
+use Rattle.qx_errno.specs.declared.Errno.{Errno}
+use Rattle.qx_errno.specs.declared.Errno.TheVariants.{EINTR}
 use Rattle.qx_types.specs.declared.names.Actor.{Actor}
 use Rattle.qx_types.specs.declared.names.Actor.TheVariants.{OfProc}
 use Rattle.qx_types.specs.declared.names.Proc.{Proc}

@@ -3,7 +3,7 @@ use Rattle.std.proofs.Common.{length, ◌≡◌, inl, inr, ℕ, List, Option, So
 use Rattle.std.specs.Prelude.{is_some, map, option_map, slice_get}
 use Rattle.std.proofs.lemmas.Bool.{cases_Bool}
 use Rattle.qx_types.specs.Configuration.{Configuration}
-use Rattle.qx_types.specs.declared.errno.Errno.TheVariants.{EINTR}
+use Rattle.qx_errno.specs.declared.Errno.TheVariants.{EINTR}
 use Rattle.qx_types.specs.declared.names.Manager.{Manager}
 use Rattle.qx_types.specs.declared.names.Proc.{Proc}
 use Rattle.qx_types.specs.declared.names.Thread.{Thread}

@@ -1,23 +1,39 @@
 -- Managers and their numbers. What is said of every manager is said of each number below their count, so one more manager is told here alone.
-use Rattle.std.proofs.Common.{◌≡◌, ◌≢◌, ℕ, zero, suc, ◌<◌, ◌+◌, List, [], ◌∷◌, length, map, get_or, Some, refl, sym, ap, ap₂, subst, ◌∙◌, arith}
+use Rattle.std.proofs.Common.{◌≡◌, ◌≢◌, ℕ, zero, suc, ◌<◌, ◌+◌, List, [], ◌∷◌, length, map, get_or, Option, Some, None, refl, sym, ap, ap₂, subst, ◌∙◌, arith}
 use Rattle.std.specs.Prelude.{option_map, slice_get}
 use Rattle.std.proofs.lemmas.List.{ext_get_or, length-map}
-use Rattle.std.proofs.lemmas.Option.{get_or_from_slice_get, same_Some, slice_get-map, slice_get_within}
+use Rattle.std.proofs.lemmas.Option.{get_or_from_slice_get, same_Some, slice_get-get_or, slice_get-map, slice_get_within}
+use Rattle.qx_devices.specs.Devices.{device_number, devices}
+use Rattle.qx_devices.proofs.Listed.{device_at, device_number_at}
 use Rattle.qx_types.specs.Managers.{manager_number, managers}
 use Rattle.qx_types.specs.declared.names.Manager.{Manager}
-use Rattle.qx_types.specs.declared.names.Manager.TheVariants.{Ram, Pipe}
+use Rattle.qx_types.specs.declared.names.Manager.TheVariants.{Ram, Pipe, Device}
 use Rattle.qx_types.specs.declared.names.TheConstants.Manager.{COUNT}
+
+-- devices come behind the others
+behind : (number : ℕ) → slice_get managers (2 + number) ≡ option_map Device (slice_get devices number)
+behind number = rw (two_more number) (slice_get-map Device devices number)
+  where
+    two_more : (number : ℕ) → 2 + number ≡ suc (suc number)
+    two_more number = omega arith
 
 -- a manager stands among all at its number
 pub manager_at : (manager : Manager) → slice_get managers (manager_number manager) ≡ Some manager
 manager_at Ram = refl
 manager_at Pipe = refl
+manager_at (Device device) = behind (device_number device) ∙ ap (option_map Device) (device_at device)
 
 -- and no manager at another's
 pub number_at : (number : ℕ) (manager : Manager) → slice_get managers number ≡ Some manager → manager_number manager ≡ number
 number_at zero manager is = ap manager_number (same_Some manager Ram (sym is))
 number_at (suc zero) manager is = ap manager_number (same_Some manager Pipe (sym is))
-number_at (suc (suc number)) manager is = absurd (cc)
+number_at (suc (suc number)) manager is = device_there (slice_get devices number) refl (sym (slice_get-map Device devices number) ∙ is)
+  where
+    device_there : (found : Option _) → slice_get devices number ≡ found → option_map Device found ≡ Some manager → manager_number manager ≡ suc (suc number)
+    device_there None here is = absurd (cc)
+    device_there (Some device) here is =
+        let its = device_number_at number device here in
+        ap manager_number (same_Some manager (Device device) (sym is)) ∙ (omega (arith, its))
 
 pub all_managers : length managers ≡ COUNT
 all_managers = refl
@@ -31,9 +47,7 @@ same_manager one other same = same_Some one other (sym (manager_at one) ∙ ap (
 
 -- under each number below the count is a manager
 pub manager_of : (number : ℕ) → number < COUNT → (manager : Manager) × (slice_get managers number ≡ Some manager)
-manager_of zero few = (Ram, refl)
-manager_of (suc zero) few = (Pipe, refl)
-manager_of (suc (suc number)) few = absurd (omega (arith, few))
+manager_of number few = (get_or managers number Ram, slice_get-get_or managers number Ram few)
 
 -- a table with a place for each manager is known by what stands there
 pub by_managers : {A : Type 0} (none : A) (places : List A) (at : Manager → A) → length places ≡ COUNT → ((manager : Manager) → get_or places (manager_number manager) none ≡ at manager) → places ≡ map at managers

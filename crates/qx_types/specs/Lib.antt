@@ -1,5 +1,4 @@
 pub mod Configuration
-pub mod Errno
 pub mod Flags
 pub mod Managers
 pub mod Optional

@@ -3,6 +3,8 @@ ghost use Rattle.qx_types.specs.Managers.{manager_number, managers};
 ghost use Rattle.qx_types.specs.Step.{user_of};
 ghost use Rattle.qx_types.specs.declared.names.TheConstants.Manager.{COUNT};
 
+use qx_devices::Device;
+
 /// A user's number, from 1 in the order of the configuration.
 #[derive(Clone, Copy, Debug, PartialEq, Eq)]
 pub struct User(pub u8);
@@ -38,11 +40,13 @@ pub enum Manager {
     Ram,
     /// Pipes.
     Pipe,
+    /// Devices of one kind.
+    Device(Device),
 }
 
 impl Manager {
     /// How many managers there are.
-    pub const COUNT: usize = 2;
+    pub const COUNT: usize = 2 + Device::COUNT;
 
     /// The manager's number, from 0, under which rows of each manager stand.
     pub fn number(self) -> usize
@@ -52,6 +56,7 @@ impl Manager {
         match self {
             Manager::Ram => 0,
             Manager::Pipe => 1,
+            Manager::Device(device) => 2 + device.number(),
         }
     }
 
@@ -62,7 +67,7 @@ impl Manager {
         match number {
             0 => Some(Manager::Ram),
             1 => Some(Manager::Pipe),
-            _ => None,
+            _ => Some(Manager::Device(Device::of_number(number - 2)?)),
         }
     }
 }

@@ -1,9 +1,9 @@
 ghost use Rattle.std.specs.Prelude.{◌≡◌, ◌≤◌, ℕ, List, Bool, MatchResult, length};
 ghost use Rattle.std.specs.Result.{ForOk};
-ghost use Rattle.qx_types.specs.declared.errno.Errno.{Errno};
+ghost use Rattle.qx_errno.specs.declared.Errno.{Errno};
 
-use crate::errno::Errno;
 use crate::names::Prio;
+use qx_errno::Errno;
 
 /// A value that stands in a priority line.
 pub trait Ranked {

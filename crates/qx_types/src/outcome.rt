@@ -1,8 +1,8 @@
 ghost use Rattle.std.specs.Prelude.{◌≡◌};
 
-use crate::errno::Errno;
 use crate::names::Item;
 use qx_bytes::MessageBytes;
+use qx_errno::Errno;
 use std::alloc::AllocError;
 
 /// What a server answers to a message (C Library Reference: `MsgReply`, `MsgError`).

@@ -1,5 +1,7 @@
 -- What is printed of fixed words is a word, and is read back.
-use Rattle.std.proofs.Common.{◌≡◌, ℕ, ◌≤◌, true, List, Option, Some, refl, arith, zero, suc}
+use Rattle.std.proofs.Common.{◌≡◌, ℕ, ◌≤◌, true, List, map, Option, Some, refl, sym, ap, ◌∙◌, arith, zero, suc}
+use Rattle.std.specs.Prelude.{option_map, slice_get}
+use Rattle.std.proofs.lemmas.Option.{same_Some, slice_get-map}
 use Rattle.std.proofs.lemmas.Bool.Decides.{nat_tests}
 use Rattle.qx_types.specs.declared.fields.NotifyAction.{NotifyAction}
 use Rattle.qx_types.specs.declared.fields.NotifyAction.TheVariants.{Poll, PollArm, TranArm}
@@ -7,7 +9,8 @@ use Rattle.qx_types.specs.declared.fields.Whence.{Whence}
 use Rattle.qx_types.specs.declared.fields.Whence.TheVariants.{Set, Current, End}
 use Rattle.qx_types.specs.declared.flags.Conds.{Conds}
 use Rattle.qx_types.specs.declared.names.Manager.{Manager}
-use Rattle.qx_types.specs.declared.names.Manager.TheVariants.{Ram, Pipe}
+use Rattle.qx_types.specs.Managers.{manager_number, managers}
+use Rattle.qx_types.proofs.Managers.{manager_at}
 use Rattle.qx_words.specs.FixedWords.{action_of, action_text, conditions_named, conditions_of, conditions_text, manager_of, manager_text, whence_of, whence_text}
 use Rattle.qx_words.specs.Kinds.{is_word}
 
@@ -15,10 +18,26 @@ use Rattle.qx_words.specs.Kinds.{is_word}
 abbrev pub IsWordOf : {A : Type 0} → (List ℕ → Option A) → A → List ℕ → Type 0
 IsWordOf read value word = (is_word word ≡ true) × (read word ≡ Some value)
 
-pub manager_word : (manager : Manager) → IsWordOf manager_of manager (manager_text manager)
+-- what is equal in the order of all managers is equal at each
+at_each : {X : Type 0} (f g : Manager → X) → map f managers ≡ map g managers → (manager : Manager) → f manager ≡ g manager
+at_each {X} f g same manager = same_Some (f manager) (g manager) (sym (there f) ∙ ap (λ table. slice_get table (manager_number manager)) same ∙ there g)
+  where
+    there : (f : Manager → X) → slice_get (map f managers) (manager_number manager) ≡ Some (f manager)
+    there f = slice_get-map f managers (manager_number manager) ∙ ap (option_map f) (manager_at manager)
+
+-- computed of all managers: that of a device whose word is no word, or another's, is refused here
+managers_are_words : map (λ manager. is_word (manager_text manager)) managers ≡ map (λ manager. true) managers
+managers_are_words = refl
+
+managers_again : map (λ manager. manager_of (manager_text manager)) managers ≡ map Some managers
 unfolding manager_of
-manager_word Ram = (refl, refl)
-manager_word Pipe = (refl, refl)
+managers_again = refl
+
+pub manager_word : (manager : Manager) → IsWordOf manager_of manager (manager_text manager)
+manager_word manager = (
+  at_each (λ manager. is_word (manager_text manager)) (λ manager. true) managers_are_words manager,
+  at_each (λ manager. manager_of (manager_text manager)) Some managers_again manager,
+)
 
 pub whence_word : (whence : Whence) → IsWordOf whence_of whence (whence_text whence)
 unfolding whence_of

@@ -2,6 +2,7 @@
 use Rattle.std.specs.Prelude.{ℕ, ◌==◌, if◌then◌else◌, List, [], ◌∷◌, Option, codes}
 use Rattle.std.specs.List.{find}
 use Rattle.std.specs.Str.{bytes_eq}
+use Rattle.qx_devices.specs.Devices.{device_word}
 use Rattle.qx_types.specs.Managers.{managers}
 use Rattle.qx_types.specs.declared.fields.NotifyAction.{NotifyAction}
 use Rattle.qx_types.specs.declared.fields.NotifyAction.TheVariants.{Poll, PollArm, TranArm}
@@ -9,7 +10,7 @@ use Rattle.qx_types.specs.declared.fields.Whence.{Whence}
 use Rattle.qx_types.specs.declared.fields.Whence.TheVariants.{Set, Current, End}
 use Rattle.qx_types.specs.declared.flags.Conds.{Conds}
 use Rattle.qx_types.specs.declared.names.Manager.{Manager}
-use Rattle.qx_types.specs.declared.names.Manager.TheVariants.{Ram, Pipe}
+use Rattle.qx_types.specs.declared.names.Manager.TheVariants.{Ram, Pipe, Device}
 
 -- the first of the values whose word it is
 abbrev pub value_with : {A : Type 0} → (A → List ℕ) → List A → List ℕ → Option A
@@ -18,6 +19,7 @@ value_with text values word = find (λ value. bytes_eq word (text value)) values
 abbrev pub manager_text : Manager → List ℕ
 manager_text Ram = codes "ram"
 manager_text Pipe = codes "pipe"
+manager_text (Device device) = device_word device
 
 unfoldable pub manager_of : List ℕ → Option Manager
 manager_of word = value_with manager_text managers word

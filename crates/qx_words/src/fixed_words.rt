@@ -3,20 +3,21 @@
 ghost use Rattle.std.specs.Prelude.{◌≡◌};
 ghost use Rattle.qx_words.specs.FixedWords.{action_of, conditions_of, manager_of, whence_of};
 
+use crate::text::manager_word;
 use qx_types::{Conds, Manager, NotifyAction, Whence};
 
-/// A manager: `ram` or `pipe`.
+/// A manager, by the word that is printed of it.
 #[tactic(auto, unfolding(crate::specs::FixedWords::manager_of))]
 pub fn manager(word: &[u8]) -> Option<Manager>
     ensures manager { result ≡ manager_of word.now }
 {
-    if word == b"ram".as_slice() {
-        Some(Manager::Ram)
-    } else if word == b"pipe".as_slice() {
-        Some(Manager::Pipe)
-    } else {
-        None
+    for number in 0..Manager::COUNT {
+        let manager = Manager::of_number(number)?;
+        if word == manager_word(manager) {
+            return Some(manager);
+        }
     }
+    None
 }
 
 /// Where an offset counts from: `set`, `cur` or `end`.

@@ -106,14 +106,22 @@ fn push_hexadecimal(text: &mut Vec<u8>, bytes: &[u8]) -> Result<(), NoMemory>
     }
 }
 
+/// The word of a manager.
+pub fn manager_word(manager: Manager) -> &'static [u8]
+    ensures word { result.now ≡ manager_text manager }
+{
+    match manager {
+        Manager::Ram => b"ram",
+        Manager::Pipe => b"pipe",
+        Manager::Device(device) => device.word().as_bytes(),
+    }
+}
+
 /// A manager.
 pub fn push_manager(text: &mut Vec<u8>, manager: Manager) -> Result<(), NoMemory>
     ensures ok { OnOk result (text.new.items ≡ text.old.items ++ manager_text manager) }
 {
-    match manager {
-        Manager::Ram => Ok(text.extend_from_slice(b"ram")?),
-        Manager::Pipe => Ok(text.extend_from_slice(b"pipe")?),
-    }
+    Ok(text.extend_from_slice(manager_word(manager))?)
 }
 
 /// Where an offset counts from.

@@ -113,13 +113,17 @@ fn call(
     Ok(answers(&world.take_reply(thread)))
 }
 
-/// The first worker does what it holds, and then all that waits: first for the RAM manager, then for the pipe manager.
+/// The first worker does what it holds, and then all that waits, for one manager after the other.
 fn serve(world: &mut World, moment: u64) -> Result<(), NoMemory> {
     if world.holds(FIRST) {
         let _ = world.perform_held(FIRST, moment)?;
     }
-    serve_line(world, Manager::Ram, moment)?;
-    serve_line(world, Manager::Pipe, moment)
+    for number in 0..Manager::COUNT {
+        if let Some(manager) = Manager::of_number(number) {
+            serve_line(world, manager, moment)?;
+        }
+    }
+    Ok(())
 }
 
 /// Serves a line until nothing waits there. A message that is performed puts one pulse there at most, and a pulse none.

@@ -1,7 +1,7 @@
 -- The null manager's user stays one of those whose events are kept.
 use Rattle.std.proofs.Common.{ℕ, List, Result, Ok, Err, arith}
 use Rattle.std.proofs.lemmas.List.{length-set}
-use Rattle.qx_types.specs.declared.errno.Errno.{Errno}
+use Rattle.qx_errno.specs.declared.Errno.{Errno}
 use Rattle.qx_machine.specs.Functions.{Deed}
 use Rattle.qx_notify.specs.Events.{AllEvents}
 use Rattle.qx_resmgr.specs.Deeds.{Did}

@@ -44,9 +44,10 @@ const KINDS: &str = "\
     perform 1 9\n";
 
 /// An open that makes a file, a write that makes it longer, a directory that is made, for whose entry there is room, a mount
-/// of RAM, an open that makes a pipe, a notification that arms an event, and a directory that is made in the first one.
+/// of RAM, an open that makes a pipe, a notification that arms an event, an open that makes a device, a read that waits there
+/// and a write that answers it, and a directory that is made in the first one.
 const GROWTHS: &str = "\
-    spawn ann 1 10\n\
+    spawn ann 2 10\n\
     open ann.1.1 /ann/f rwc 644\n\
     receive 1 ram\n\
     perform 1 5\n\
@@ -69,6 +70,19 @@ const GROWTHS: &str = "\
     receive 1 pipe\n\
     perform 1 8\n\
     reply ann.1.1\n\
+    mount ann.1.1 /ann/latch latch\n\
+    open ann.1.1 /ann/latch/f rwc 600\n\
+    receive 1 latch\n\
+    perform 1 8\n\
+    reply ann.1.1\n\
+    read ann.1.2 5 4\n\
+    receive 1 latch\n\
+    perform 1 10\n\
+    write ann.1.1 5 0102\n\
+    receive 1 latch\n\
+    perform 1 10\n\
+    reply ann.1.1\n\
+    reply ann.1.2\n\
     mkdir ann.1.1 /ann/d/e 755\n\
     receive 1 ram\n\
     perform 1 9\n";

@@ -39,8 +39,19 @@ fn is_same_world(one: &World, other: &World) -> bool {
         && has_same_worker(one, other, Worker(2))
         && has_same_thread(one, other, User(1))
         && has_same_thread(one, other, User(2))
-        && one.waiting(Manager::Ram) == other.waiting(Manager::Ram)
-        && one.waiting(Manager::Pipe) == other.waiting(Manager::Pipe)
+        && has_same_lines(one, other)
+}
+
+/// Whether as many items wait in each line.
+fn has_same_lines(one: &World, other: &World) -> bool {
+    for number in 0..Manager::COUNT {
+        if let Some(manager) = Manager::of_number(number) {
+            if one.waiting(manager) != other.waiting(manager) {
+                return false;
+            }
+        }
+    }
+    true
 }
 
 fn has_same_worker(one: &World, other: &World, worker: Worker) -> bool {

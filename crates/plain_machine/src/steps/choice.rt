@@ -6,6 +6,7 @@ use crate::steps::paths::next_mount_path;
 use crate::steps::pipes::{next_piping, next_waiting};
 use crate::steps::requests::next_request;
 use crate::{Plain, Post, State};
+use plain_rules::pipes::MANAGERS;
 use qx_types::{Manager, Prio, Proc, Request, Step, Thread, User, Worker};
 use std::alloc::{AllocError, Global};
 
@@ -56,7 +57,7 @@ fn next_spawn(dice: &mut Dice) -> Step {
     }
 }
 
-/// A thread of which a worker holds a pulse most often calls a pipe, where it may wait while the pulse is done.
+/// A thread of which a worker holds a pulse most often calls a pipe or a device, where it may wait while the pulse is done.
 fn next_call(alloc: Global, dice: &mut Dice, plain: &Plain) -> Result<Step, AllocError> {
     let thread = ready_thread(dice, plain);
     let request = if has_held_pulse(plain, thread) && !dice.one_in(4) {
@@ -110,7 +111,7 @@ fn next_set_prio(dice: &mut Dice) -> Step {
     }
 }
 
-/// Most often a thread whose message a worker holds, or one that waits in a pipe.
+/// Most often a thread whose message a worker holds, or one that waits.
 fn next_interrupt(dice: &mut Dice, plain: &Plain) -> Step {
     let found = match plain.hand(any_worker(dice)) {
         Some(Post::Message(thread)) if !dice.one_in(4) => Some(thread),
@@ -125,12 +126,13 @@ fn next_interrupt(dice: &mut Dice, plain: &Plain) -> Step {
     }
 }
 
+/// So that each user comes to have mounts of all managers.
 fn next_mount(alloc: Global, dice: &mut Dice, plain: &Plain) -> Result<Step, AllocError> {
     let thread = ready_thread(dice, plain);
     Ok(Step::Mount {
         thread,
         path: next_mount_path(alloc, dice, thread.proc.user)?,
-        manager: next_manager(dice),
+        manager: plain.least_mounted(thread.proc.user),
     })
 }
 
@@ -258,7 +260,7 @@ fn answered_thread(dice: &mut Dice, plain: &Plain) -> Thread {
     next_thread(dice)
 }
 
-/// One of the first threads that wait in a pipe, if there are so many.
+/// One of the first threads that wait in a pipe or at a device, if there are so many.
 pub fn waiting_thread(dice: &mut Dice, plain: &Plain) -> Option<Thread> {
     let place = usize::from(dice.below(8));
     plain
@@ -270,7 +272,7 @@ pub fn waiting_thread(dice: &mut Dice, plain: &Plain) -> Option<Thread> {
 }
 
 /// Now and then the thread of a pulse that a worker holds, so that it goes on while the pulse is held, or one beside a
-/// thread that waits in a pipe, so that blocks are closed on which calls wait.
+/// thread that waits, so that blocks are closed on which calls wait.
 fn watched_thread(dice: &mut Dice, plain: &Plain) -> Thread {
     if dice.one_in(2)
         && let Some(Post::Unblock(thread, _)) = plain.hand(any_worker(dice))
@@ -342,7 +344,7 @@ fn is_last(plain: &Plain, post: Post) -> bool {
     match post {
         Post::Message(_) => false,
         Post::Unblock(thread, call) => {
-            plain.has_ended(thread.proc) && !plain.is_in_pipe(thread, call)
+            plain.has_ended(thread.proc) && !plain.is_waiting(thread, call)
         }
         Post::Disconnect(name) => {
             plain.has_blocks(name)
@@ -361,20 +363,20 @@ pub fn any_worker(dice: &mut Dice) -> Worker {
     }
 }
 
-/// Most often a manager in whose line an item waits.
-fn waited_for(dice: &mut Dice, plain: &Plain) -> Manager {
-    let manager = next_manager(dice);
-    if plain.waiting(manager) == 0 && !dice.one_in(8) {
-        next_manager(dice)
-    } else {
-        manager
+/// A manager in whose line an item waits, where a few tries find one.
+pub fn waited_for(dice: &mut Dice, plain: &Plain) -> Manager {
+    for _ in 0..dice.below(8) {
+        let manager = next_manager(dice);
+        if plain.waiting(manager) > 0 {
+            return manager;
+        }
     }
+    next_manager(dice)
 }
 
+/// One of all managers, those of files and of pipes more often than any device.
 fn next_manager(dice: &mut Dice) -> Manager {
-    if dice.one_in(2) {
-        Manager::Pipe
-    } else {
-        Manager::Ram
-    }
+    let count = if dice.one_in(2) { 2 } else { MANAGERS };
+    let number = usize::from(dice.below(count));
+    Manager::of_number(number).unwrap_or(Manager::Ram)
 }

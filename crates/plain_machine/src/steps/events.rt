@@ -8,8 +8,8 @@ use crate::steps::texts::filled;
 use qx_types::{Bytes, Coid, Conds, NotifyAction, Proc, Request, User};
 use std::alloc::{AllocError, Global};
 
-/// A notification of a process, most often over a connection to a pipe mount, and now and then over one whose open is
-/// still to be done.
+/// A notification of a process, most often over a connection to a mount of pipes or devices, and now and then over one whose
+/// open is still to be done.
 pub fn next_notifying(dice: &mut Dice, plain: &Plain, proc: Proc) -> Request {
     let place = usize::from(dice.below(6));
     let found = match dice.below(8) {
@@ -94,8 +94,9 @@ pub fn pulsed_process(dice: &mut Dice, plain: &Plain) -> Option<Proc> {
     plain.pulse_process(usize::from(dice.below(16)))
 }
 
-/// What most likely makes events due of a process that has armed some on pipes, or serves its calls that wait there: bytes that stand are read, as many as
-/// can stand are written or a few where there are none, or a side is closed that is open nowhere else.
+/// What most likely makes events due of a process that has armed some on pipes or devices, or serves its calls that wait
+/// there: bytes that stand are read, as many as can stand are written or a few where there are none, or a side is closed
+/// that is open nowhere else.
 pub fn next_rousing(
     alloc: Global,
     dice: &mut Dice,

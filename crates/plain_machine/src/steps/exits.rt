@@ -11,7 +11,7 @@ const LASTING: u8 = 6;
 
 /// An exit where the user can have no further block, and of the first user's now and then where it can have no further
 /// event, so that those of an ended process count: as often of a process of which a worker holds something, which waits in
-/// a pipe or which has a pulse as of any, and seldom of one that is to last.
+/// a pipe or at a device or which has a pulse as of any, and seldom of one that is to last.
 pub fn next_exit(dice: &mut Dice, plain: &Plain) -> Option<Step> {
     let proc = next_process(dice, plain);
     let is_full = plain.is_full(proc.user)

@@ -1,11 +1,13 @@
-//! Guests: a few processes that share two pipes, wait there, are interrupted, and end, one after the other.
+//! Guests: a few processes that share two pipes and a device of each kind, wait there, are interrupted, and end, one after
+//! the other.
 
-use crate::steps::choice::{any_worker, empty_worker, next_perform};
+use crate::steps::choice::{any_worker, empty_worker, next_perform, waited_for};
 use crate::steps::dice::Dice;
 use crate::steps::texts::filled;
 use crate::steps::visits::VISITOR;
 use crate::{Plain, Post, State};
 use plain_rules::files::PipeLook;
+use plain_rules::pipes::MANAGERS;
 use qx_types::{
     Bytes, Coid, Conds, Manager, NotifyAction, OFlags, Prio, Proc, Request, Step, Thread,
 };
@@ -99,7 +101,7 @@ fn next_of_guest(alloc: Global, dice: &mut Dice, plain: &Plain) -> Result<Step, 
 fn next_receive(dice: &mut Dice, plain: &Plain) -> Step {
     Step::Receive {
         worker: empty_worker(dice, plain),
-        manager: Manager::Pipe,
+        manager: waited_for(dice, plain),
     }
 }
 
@@ -117,7 +119,7 @@ fn next_late(alloc: Global, dice: &mut Dice, thread: Thread) -> Result<Step, All
             prio: Prio(1),
         }),
         4 => Ok(Step::Interrupt { thread }),
-        5 => mount(alloc, thread),
+        5 => mount(alloc, thread, 1),
         6 => Ok(Step::Exit { proc: thread.proc }),
         _ => Ok(Step::Spawn {
             user: VISITOR,
@@ -127,23 +129,41 @@ fn next_late(alloc: Global, dice: &mut Dice, thread: Thread) -> Result<Step, All
     }
 }
 
-fn mount(alloc: Global, thread: Thread) -> Result<Step, AllocError> {
+/// A mount of the manager of that number, which is not that of files.
+fn mount(alloc: Global, thread: Thread, number: u8) -> Result<Step, AllocError> {
     Ok(Step::Mount {
         thread,
-        path: Bytes::from_slice(alloc, b"/dan/p")?,
-        manager: Manager::Pipe,
+        path: path_in(alloc, number, b"")?,
+        manager: Manager::of_number(usize::from(number)).unwrap_or(Manager::Pipe),
     })
 }
 
-/// A call over a connection to a pipe, or one that opens a pipe where the process has few; but first of all a mount.
+/// A path in the mount of the manager of that number.
+fn path_in(alloc: Global, number: u8, rest: &[u8]) -> Result<Bytes, AllocError> {
+    let mut path = Vec::from_slice(alloc, b"/dan/")?;
+    path.push(b'o'.saturating_add(number))?;
+    path.extend_from_slice(rest)?;
+    Ok(Bytes::from_vec(path))
+}
+
+/// The number of a manager that the guests have not mounted yet.
+fn unmounted(plain: &Plain) -> Option<u8> {
+    (1..MANAGERS)
+        .zip(0..)
+        .find(|(_, place)| plain.pipe_mount(VISITOR, *place).is_none())
+        .map(|(number, _)| number)
+}
+
+/// A call over a connection to a pipe or a device, or one that opens one where the process has few; but first of all the
+/// mounts.
 fn next_call(
     alloc: Global,
     dice: &mut Dice,
     plain: &Plain,
     thread: Thread,
 ) -> Result<Step, AllocError> {
-    if plain.pipe_mount(VISITOR, 0).is_none() {
-        return mount(alloc, thread);
+    if let Some(number) = unmounted(plain) {
+        return mount(alloc, thread, number);
     }
     let place = next_place(dice, plain, thread.proc);
     let request = match plain.pipe_look(thread.proc, place) {
@@ -152,23 +172,23 @@ fn next_call(
             next_over(alloc, dice, plain, coid, reads)?
         }
         None if dice.one_in(24) => Request::Unlink {
-            path: Bytes::from_slice(alloc, b"/dan/p/a")?,
+            path: path_in(alloc, 1, b"/a")?,
         },
         None => open(alloc, dice, thread.proc)?,
     };
     Ok(Step::Call { thread, request })
 }
 
-/// The place of one of two connections to pipes: of one where calls of ended processes wait, if there is any.
+/// The place of one of three connections to pipes or devices: of one where calls of ended processes wait, if there is any.
 fn next_place(dice: &mut Dice, plain: &Plain, proc: Proc) -> usize {
-    for place in 0..2 {
+    for place in 0..3 {
         if let Some(coid) = plain.pipe_connection(proc, place)
             && plain.has_gone(proc, coid)
         {
             return place;
         }
     }
-    usize::from(dice.below(2))
+    usize::from(dice.below(3))
 }
 
 /// Whether to read: most often where the pipe is open for that, but as often not where calls of ended processes wait.
@@ -184,10 +204,10 @@ fn is_read(dice: &mut Dice, plain: &Plain, look: PipeLook) -> bool {
 
 /// Three of the guests write, and one reads, and now and then they do both.
 fn open(alloc: Global, dice: &mut Dice, proc: Proc) -> Result<Request, AllocError> {
-    let path = if dice.one_in(8) {
-        b"/dan/p/b"
-    } else {
-        b"/dan/p/a"
+    let path = match dice.below(8) {
+        0 => path_in(alloc, 1, b"/b")?,
+        1 | 2 => path_in(alloc, 2 + dice.below(MANAGERS - 2), b"/a")?,
+        _ => path_in(alloc, 1, b"/a")?,
     };
     let access = if dice.one_in(8) {
         OFlags::READ | OFlags::WRITE
@@ -197,14 +217,14 @@ fn open(alloc: Global, dice: &mut Dice, proc: Proc) -> Result<Request, AllocErro
         OFlags::WRITE
     };
     Ok(Request::OpenPath {
-        path: Bytes::from_slice(alloc, path)?,
+        path,
         flags: access | OFlags::CREAT,
         mode: 0o700,
     })
 }
 
-/// What may wait, or cleans a pipe that an ended guest had open; an event, a dup or a close. Few bytes are read at once, so
-/// that those wait who write many.
+/// What may wait, or cleans a pipe or a device that an ended guest had open; an event, a dup or a close. Few bytes are read
+/// at once, so that those wait who write many.
 fn next_over(
     alloc: Global,
     dice: &mut Dice,
@@ -212,18 +232,19 @@ fn next_over(
     coid: Coid,
     reads: bool,
 ) -> Result<Request, AllocError> {
-    let count = match dice.below(4) {
+    let count = match dice.below(8) {
         _ if plain.gone_calls() > 0 => 0,
-        0 => 4_096,
+        0 | 1 => 4_096,
+        2 => 0,
         _ => 1,
     };
     match dice.below(12) {
-        0..=7 if reads => Ok(Request::Read { coid, count }),
-        0..=7 => Ok(Request::Write {
+        0..=6 if reads => Ok(Request::Read { coid, count }),
+        0..=6 => Ok(Request::Write {
             coid,
             bytes: Bytes::from_vec(filled(alloc, b'g', count as usize)?),
         }),
-        8 => Ok(Request::Close { coid }),
+        7 | 8 => Ok(Request::Close { coid }),
         9 | 10 => Ok(Request::Notify {
             coid,
             action: NotifyAction::TranArm,

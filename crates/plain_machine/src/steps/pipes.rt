@@ -1,31 +1,44 @@
-//! Pseudo-random requests of pipes: some wait, some serve those who wait, and some close what they wait on.
+//! Pseudo-random requests of pipes and of devices: some wait, some serve those who wait, and some close what they wait on.
 
 use crate::steps::dice::Dice;
 use crate::steps::paths::next_path;
 use crate::steps::raws::next_raw;
 use crate::steps::requests::{next_bytes, next_count, next_directory_mode, next_mode, next_using};
-use crate::steps::texts::filled;
+use crate::steps::texts::{filled, next_after};
 use crate::{Plain, State};
 use qx_types::{Bytes, OFlags, Proc, Request};
 use std::alloc::{AllocError, Global};
 
-/// A request of a process over a connection to a pipe mount, if it has one there, or of a path there. Where a thread of
-/// it waits, many are to close one, to read all that stands or to write a few bytes.
+/// A request of a process over a connection to a mount of pipes or devices, if it has one there, or of a path there. Where
+/// a thread of it waits, many are to close one, to read all that stands or to write a few bytes or none. Of a directory there
+/// the names are listed often.
 pub fn next_piping(
     alloc: Global,
     dice: &mut Dice,
     plain: &Plain,
     proc: Proc,
 ) -> Result<Request, AllocError> {
-    let Some(coid) = plain.pipe_connection(proc, usize::from(dice.below(3))) else {
+    let place = usize::from(dice.below(5));
+    let Some(coid) = plain.pipe_connection(proc, place) else {
         return open_pipe(alloc, dice, plain, proc);
     };
+    if plain.pipe_look(proc, place).is_none() && dice.one_in(2) {
+        return Ok(Request::List {
+            coid,
+            after: Bytes::from_vec(next_after(alloc, dice)?),
+        });
+    }
     if has_waiting(plain, proc) {
         match dice.below(8) {
             0..=2 => return Ok(Request::Close { coid }),
             3 | 4 => return Ok(Request::Read { coid, count: 4_096 }),
             5 | 6 => {
-                let bytes = Bytes::from_slice(alloc, b"woken")?;
+                let word = if dice.one_in(4) {
+                    b""
+                } else {
+                    b"woken".as_slice()
+                };
+                let bytes = Bytes::from_slice(alloc, word)?;
                 return Ok(Request::Write { coid, bytes });
             }
             _ => {}
@@ -44,7 +57,8 @@ pub fn next_piping(
             bytes: next_raw(alloc, dice)?,
         }),
         9 => Ok(Request::Close { coid }),
-        10..=12 => Ok(Request::Read {
+        10 => Ok(Request::Fstat { coid }),
+        11 | 12 => Ok(Request::Read {
             coid,
             count: next_count(dice),
         }),
@@ -55,8 +69,8 @@ pub fn next_piping(
     }
 }
 
-/// A call that waits, over one of the connections of a process to pipes: to read where nothing stands, or to write the
-/// most bytes where something does.
+/// A call that waits most often, over one of the connections of a process to pipes and devices: to read where nothing
+/// stands, or to write the most bytes where something does.
 pub fn next_waiting(
     alloc: Global,
     plain: &Plain,
@@ -76,7 +90,7 @@ pub fn next_waiting(
     Ok(None)
 }
 
-/// Whether a thread of a process waits in a pipe.
+/// Whether a thread of a process waits in a pipe or at a device.
 pub fn has_waiting(plain: &Plain, proc: Proc) -> bool {
     plain.threads().iter().any(|row| row.thread.proc == proc
         && matches!(&row.state, State::Waiting { .. }))
@@ -95,7 +109,7 @@ fn open_pipe(
     })
 }
 
-/// A request that looks at a path of a pipe mount.
+/// A request that looks at a path of a mount of pipes or devices.
 fn at_pipe(
     alloc: Global,
     dice: &mut Dice,
@@ -110,15 +124,15 @@ fn at_pipe(
     }
 }
 
-/// The path of a pipe of the process in one of its user's pipe mounts, now and then of one for all processes, of the mount
-/// or of what is below a pipe.
+/// The path of a pipe or a device of the process in one of its user's mounts of these, now and then of one for all
+/// processes, of the mount or of what is below a pipe or a device.
 fn pipe_path(
     alloc: Global,
     dice: &mut Dice,
     plain: &Plain,
     proc: Proc,
 ) -> Result<Bytes, AllocError> {
-    let Some(mount) = plain.pipe_mount(proc.user, usize::from(dice.below(3))) else {
+    let Some(mount) = plain.pipe_mount(proc.user, usize::from(dice.below(4))) else {
         return next_path(alloc, dice, proc.user);
     };
     let mut path = Vec::from_slice(alloc, mount.as_slice())?;
@@ -142,7 +156,7 @@ fn pipe_flags(dice: &mut Dice) -> OFlags {
         0 => OFlags(0),
         1 => OFlags::CREAT | OFlags::EXCL,
         2 => OFlags::CREAT | OFlags::TRUNC,
-        3 | 4 => OFlags::CREAT | OFlags::NONBLOCK,
+        3..=5 => OFlags::CREAT | OFlags::NONBLOCK,
         _ => OFlags::CREAT,
     };
     access | more

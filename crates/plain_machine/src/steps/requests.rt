@@ -224,12 +224,12 @@ fn next_offset(dice: &mut Dice) -> i64 {
     }
 }
 
-/// A number of bytes, now and then the greatest one or the one after it.
+/// A number of bytes, now and then none, the greatest one or the one after it.
 pub fn next_count(dice: &mut Dice) -> u32 {
-    if dice.one_in(4) {
-        4_096 + u32::from(dice.below(2))
-    } else {
-        u32::from(dice.below(100))
+    match dice.below(8) {
+        0 | 1 => 4_096 + u32::from(dice.below(2)),
+        2 => 0,
+        _ => u32::from(dice.below(100)),
     }
 }
 

@@ -24,17 +24,21 @@ impl Files {
         Ok(())
     }
 
-    /// Which conditions hold of what a block has open: of a pipe input where bytes stand or no block is for writing, and
-    /// output where one more has room or no block is for reading; of a file or a directory both.
+    /// Which conditions hold of what a block has open: of a pipe or a device input where a read would not wait, and output
+    /// where a write would not; of a file or a directory both.
     fn conditions(&self, user: User, block: u16) -> Result<u8, Errno> {
         let (opened, inode) = self.opened(user, block)?;
         let Content::Pipe(pipe) = &inode.content else {
             return Ok(INPUT | OUTPUT);
         };
-        let has_input = pipe.len() > 0 || !self.is_open(user, opened.inode, OFlags::WRITE);
-        let has_output = pipe.has_room(1) || !self.is_open(user, opened.inode, OFlags::READ);
-        let input = if has_input { INPUT } else { 0 };
-        let output = if has_output { OUTPUT } else { 0 };
+        let has_writer = self.is_open(user, opened.inode, OFlags::WRITE);
+        let has_reader = self.is_open(user, opened.inode, OFlags::READ);
+        let input = if pipe.may_read(has_writer) { INPUT } else { 0 };
+        let output = if pipe.may_write(has_reader) {
+            OUTPUT
+        } else {
+            0
+        };
         Ok(input | output)
     }
 }

@@ -1,4 +1,4 @@
-//! What is asked of pipes: read, write, the freeing of a block and the unblock of a call.
+//! What is asked of pipes, and of devices as pipes: read, write, the freeing of a block and the unblock of a call.
 
 use crate::files::fault::Fault;
 use crate::files::rows::{Block, Content, Files, Inode};

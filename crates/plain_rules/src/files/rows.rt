@@ -24,7 +24,7 @@ pub struct ServerName {
     pub number: u8,
 }
 
-/// What an inode is, with the bytes of a file.
+/// What an inode is, with the bytes of a file. A device is a pipe of other rules.
 #[derive(Drop)]
 pub enum Content {
     File(Vec<u8>),
@@ -32,7 +32,7 @@ pub enum Content {
     Pipe(Pipe),
 }
 
-/// A file, a directory or a pipe of a user.
+/// A file, a directory, a pipe or a device of a user.
 #[derive(Drop)]
 pub struct Inode {
     pub user: User,
@@ -72,7 +72,7 @@ impl Block {
     }
 }
 
-/// All files, directories and pipes, paths to them, open blocks in order of opening, and what was armed on these.
+/// All files, directories, pipes and devices, paths to them, open blocks in order of opening, and what was armed on these.
 #[derive(Drop)]
 pub struct Files {
     pub alloc: Global,
@@ -83,7 +83,7 @@ pub struct Files {
 }
 
 impl Files {
-    /// No file, directory, pipe or block.
+    /// No file, directory, pipe, device or block.
     pub fn new(alloc: Global) -> Files {
         Files {
             alloc,
@@ -99,7 +99,7 @@ impl Files {
         self.add_inode(user, number, Content::Directory, 0o700, 0)
     }
 
-    /// Makes a file, a directory or a pipe without a path.
+    /// Makes a file, a directory, a pipe or a device without a path.
     pub fn add_inode(
         &mut self,
         user: User,
@@ -268,6 +268,7 @@ impl Inode {
         match &self.content {
             Content::File(_) => 1,
             Content::Directory => 2,
+            Content::Pipe(pipe) if pipe.is_device() => 4,
             Content::Pipe(_) => 3,
         }
     }

@@ -21,7 +21,7 @@ struct End {
 }
 
 impl Files {
-    /// Opens what a path leads to, or makes a file or a pipe, by a server connection. Answers the number of the block.
+    /// Opens what a path leads to, or makes a file, a pipe or a device, by a server connection. Answers the number of the block.
     pub fn open(
         &mut self,
         place: &Place<'_>,
@@ -79,7 +79,7 @@ impl Files {
         Ok(())
     }
 
-    /// Makes a file or a pipe where none is, and opens it whatever its mode.
+    /// Makes a file, a pipe or a device where none is, and opens it whatever its mode.
     fn open_new(
         &mut self,
         place: &Place<'_>,
@@ -96,7 +96,8 @@ impl Files {
         let number = self.free_inode(place.user)?;
         let content = match place.manager {
             Manager::Ram => Content::File(Vec::new(self.alloc)),
-            Manager::Pipe => Content::Pipe(Pipe::new(self.alloc)),
+            Manager::Pipe => Content::Pipe(Pipe::new(self.alloc, None)),
+            Manager::Device(device) => Content::Pipe(Pipe::new(self.alloc, Some(device))),
         };
         self.add_inode(place.user, number, content, mode, place.moment)?;
         self.add_name(place, parent, number)?;
@@ -120,7 +121,7 @@ impl Files {
         Ok(())
     }
 
-    /// Removes the name of a file, of an empty directory or of a pipe.
+    /// Removes the name of a file, of an empty directory, of a pipe or of a device.
     pub fn unlink(&mut self, place: &Place<'_>) -> Result<(), Errno> {
         if place.path.is_empty() {
             return Err(Errno::EBUSY);

@@ -1,5 +1,6 @@
-//! What is given to those who read from a pipe, write to it, or wait there.
+//! What is given to those who read from a pipe or a device, write to it, or wait there.
 
+use crate::pipes::kept::Told;
 use qx_types::{Answer, Errno, MessageBytes, Thread};
 use std::alloc::{AllocError, Global};
 
@@ -20,6 +21,16 @@ impl Given {
             answers: Vec::new(alloc),
             is_written: false,
         }
+    }
+
+    /// Whether a thread is told anything.
+    pub fn tell(&mut self, thread: Thread, told: Told) -> Result<bool, AllocError> {
+        match told {
+            Told::Waits => return Ok(false),
+            Told::Gives(status, bytes) => self.reply(thread, status, bytes)?,
+            Told::Fails(error) => self.fail(thread, error)?,
+        }
+        Ok(true)
     }
 
     pub fn reply(&mut self, thread: Thread, status: u64, bytes: Vec<u8>) -> Result<(), AllocError> {

@@ -15,7 +15,7 @@ abbrev pub calls_of : Queues → ℕ → List WaitingCall
 calls_of c list = map (λ own. own.call) (waiting_in_list c list)
 
 abbrev pub shown_pipe : Queues → PipeRow → Pipe WaitingCall
-shown_pipe c row = record { bytes = row.bytes; readers = calls_of c row.readers; writers = calls_of c row.writers }
+shown_pipe c row = record { device = row.device; bytes = row.bytes; readers = calls_of c row.readers; writers = calls_of c row.writers }
 
 abbrev pub pipes_in : Queues → Rows → Pipes
 pipes_in c rows = map (option_map (shown_pipe c)) rows

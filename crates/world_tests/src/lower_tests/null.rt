@@ -182,6 +182,7 @@ impl Bench {
         };
         self.reply.clear();
         let given = serve::<Null, Kept, AllEvents, Told>(
+            &Null,
             &mut self.kept,
             &mut self.events,
             context,

@@ -1,4 +1,4 @@
-use Rattle.qx_pipe.proofs.CallLemmas.{cancel_once, read_once, release_once, write_once}
+use Rattle.qx_pipe.proofs.LawLemmas.{cancel_once, read_once, release_once, write_once}
 use Rattle.qx_pipe.proofs.laws.nobody_is_answered_twice.Goals as goal
 
 pub returns : goal.returns

@@ -1,5 +1,4 @@
-use Rattle.qx_pipe.proofs.CallLemmas.{cancel_settled, read_settled, release_settled, write_settled}
-use Rattle.qx_pipe.proofs.LawLemmas.{is_settled}
+use Rattle.qx_pipe.proofs.LawLemmas.{cancel_settled, is_settled, read_settled, release_settled, write_settled}
 use Rattle.qx_pipe.proofs.laws.nobody_waits_in_vain.Goals as goal
 
 pub returns : goal.returns

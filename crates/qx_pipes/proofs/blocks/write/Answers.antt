@@ -1,16 +1,18 @@
-use Rattle.std.proofs.Common.{[], None, Some, sym, ap}
+use Rattle.std.proofs.Common.{◌∙◌, [], None, Some, sym, ap}
+use Rattle.qx_iofunc.specs.Sizes.{sized}
 use Rattle.qx_iofunc.specs.Store.{Store}
 use Rattle.qx_machine.specs.PipeManager as machine
 use Rattle.qx_machine.specs.Resources.{Resources}
 use Rattle.qx_machine.specs.Waiting.{waiting_call}
-use Rattle.qx_pipes.proofs.PipesLemmas.{block-at}
-use Rattle.qx_pipes.proofs.ToldLemmas.{Tells, tells-later, tells-reply, went_in-count, write-meant, write-over}
+use Rattle.qx_pipes.proofs.PipesLemmas.{block-at, resized}
+use Rattle.qx_pipes.proofs.ToldLemmas.{Tells, tells-later, tells-reply, went_in-one, write-meant, write-over}
 use Rattle.qx_pipes.proofs.blocks.write.Goals as goal
 use Rattle.qx_pipes.specs.Pipes.{seen}
 use Rattle.qx_pipes.specs.Told.{told_alone}
+use Rattle.qx_types.specs.declared.outcome.Answer.TheVariants.{Reply}
 
 -- it is told its reply at once
-told : (c : goal.After-set_size) (r : Resources) → Tells c.args.store.now.stored c.set_size.new.store.stored c.args.shared.now c.write_alone.new.shared r (Some c.in-Some.status) [] (told_alone (seen r c.args.store.now.stored c.args.shared.now) c.args.opened (machine.write_pipe (seen r c.args.store.now.stored c.args.shared.now) c.args.opened c.args.bytes.now))
+told : (c : goal.After-set_size) (r : Resources) → Tells c.args.store.now.stored c.set_size.new.self.stored c.args.shared.now c.write_alone.new.shared r (Some c.in-Some.told.status) [] (told_alone (seen r c.args.store.now.stored c.args.shared.now) c.args.opened (machine.write_pipe (seen r c.args.store.now.stored c.args.shared.now) c.args.opened c.args.bytes.now))
 told c r =
     let store = c.args.store.now.stored in
     let shared = c.args.shared.now in
@@ -18,7 +20,7 @@ told c r =
     let at = block-at store.inodes _ _ _ block c.in_ok-block.ensures c.inodes.ensures in
     let some = sym (rw c.user-user.ensures at c.if-not-has_pipe.ensures.is) in
     let did = rw (c.user-user.ensures, c.manner-manner.ensures, c.sides-sides.ensures, c.inodes-2.ensures) at c.in-Some.ensures in
-    tells-reply store shared r c.args.opened block at.0 some _ _ c.requires.user (machine.write_pipe (seen r store shared) c.args.opened c.args.bytes.now) (write-over store shared c.args.opened block c.args.bytes.now) (write-meant store shared r c.args.opened block at.0 some c.args.bytes.now at.1) (waiting_call c.args.opened 0 c.args.bytes.now) c.in-Some.status [] _ did.idle (did.told c.args.opened) did.left (went_in-count (waiting_call c.args.opened 0 c.args.bytes.now) c.in-Some.status c.in-Some.ensures.count) (ap (λ (s : Store). s.stored) c.set_size.ensures)
+    tells-reply store shared r c.args.opened block at.0 some _ _ c.requires.user (machine.write_pipe (seen r store shared) c.args.opened c.args.bytes.now) (write-over store shared c.args.opened block c.args.bytes.now) (write-meant store shared r c.args.opened block at.0 some c.args.bytes.now at.1) (waiting_call c.args.opened 0 c.args.bytes.now) c.in-Some.told.status [] _ did.idle (did.told c.args.opened) did.left (c.is_filled-filled.ensures ∙ went_in-one (waiting_call c.args.opened 0 c.args.bytes.now) (Reply c.in-Some.told.status [])) (ap (λ (s : Store). s.stored) c.set_size.ensures.sized ∙ ap (λ size. resized block.inode (sized size c.is_filled-filled.result c.args.opened.moment) store) did.size)
 
 -- it is left without a reply
 later : (c : goal.After-set_size-2) (r : Resources) → Tells c.args.store.now.stored c.set_size-2.new.store.stored c.args.shared.now c.write-filled.new.shared r None [] (told_alone (seen r c.args.store.now.stored c.args.shared.now) c.args.opened (machine.write_pipe (seen r c.args.store.now.stored c.args.shared.now) c.args.opened c.args.bytes.now))

@@ -5,7 +5,7 @@ use Rattle.qx_iofunc.proofs.StoreLemmas.{StoreFits, unlinked_fits}
 use Rattle.qx_iofunc.specs.Store.{Stored}
 use Rattle.qx_machine.specs.Names as of_names
 use Rattle.qx_names.specs.Spots.{spot_of}
-use Rattle.qx_types.specs.declared.errno.Errno.TheVariants.{EBUSY}
+use Rattle.qx_errno.specs.declared.Errno.TheVariants.{EBUSY}
 use Rattle.qx_iofunc.proofs.store.Store.unlink.Goals as goal
 
 pub remove-requires-clause-empty : goal.remove-requires-clause-empty

@@ -123,3 +123,13 @@ returns-in-Disconnect-clause-rest c =
     let shown = shown-kept c.take_out.new.table c.give_back.new.table _ (entries-freed c.take_out.new.table _ c.in_ok-node.node _ c.give_back.ensures.freed c.in_ok-node.ensures.free) ∙ shown-first c.self.inside.table _ _ c.number.result _ _ _ c.self.invariant.1 is c.take_out.ensures.out in
     let still = calls-freed c.take_out.new.table _ c.in_ok-node.node _ c.give_back.ensures.freed c.in_ok-node.ensures.free _ c.self.inside.answered kept.off_lines in
     rw (← c.self.view_is, ← c.number.ensures.number) (same_queues shown refl refl refl (omega (arith, c.take_out.ensures.out.elsewhere.room, freed, room)) (still.waiting ∙ calls.waiting) (still.given ∙ calls.given))
+
+pub returns-in-Unblock-clause-first : goal.returns-in-Unblock-clause-first
+returns-in-Unblock-clause-first c =
+    let is : slice_get c.self.inside.lines.items c.number.result ≡ Some c.index_mut.result.now = slice_get_read c.self.inside.lines.items COUNT c.number.result c.index_mut.result.now (sym c.self.invariant.0) c.number.ensures.few c.index_mut.ensures.value in
+    rw (← c.self.view_is, ← c.number.ensures.number, line_at-shown c.self.inside.table _ c.number.result _ is) c.in_ok-node.ensures.first
+
+pub returns-in-Disconnect-clause-first : goal.returns-in-Disconnect-clause-first
+returns-in-Disconnect-clause-first c =
+    let is : slice_get c.self.inside.lines.items c.number.result ≡ Some c.index_mut.result.now = slice_get_read c.self.inside.lines.items COUNT c.number.result c.index_mut.result.now (sym c.self.invariant.0) c.number.ensures.few c.index_mut.ensures.value in
+    rw (← c.self.view_is, ← c.number.ensures.number, line_at-shown c.self.inside.table _ c.number.result _ is) c.in_ok-node.ensures.first

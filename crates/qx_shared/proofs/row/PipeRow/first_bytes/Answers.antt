@@ -7,4 +7,4 @@ returns-clause-bytes c =
     let first = c.as_slices.result.0.now in
     let second = c.as_slices.result.1.now in
     let count : length first + (c.args.count - length first) ≡ c.args.count = omega (arith, c.if-count-first.false) in
-    rw (← c.self.view_is, ← c.as_slices.ensures) (sym (take-append-add first second (c.args.count - length first)) ∙ ap (λ n. take n (first ++ second)) count)
+    rw (← c.as_slices.ensures.bytes) (sym (take-append-add first second (c.args.count - length first)) ∙ ap (λ n. take n (first ++ second)) count)

@@ -1,0 +1,2 @@
+//! The mailbox, a device: `Mailbox.antt` says what calls come to.
+#![tactic(auto)]

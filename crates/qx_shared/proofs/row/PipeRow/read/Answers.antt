@@ -1,0 +1,8 @@
+use Rattle.qx_shared.proofs.ToldLemmas.{left-within}
+use Rattle.qx_shared.proofs.row.PipeRow.read.Goals as goal
+
+pub invariant_of-self : goal.invariant_of-self
+invariant_of-self c = c.know.ensures.few
+
+pub returns-clause-left : goal.returns-clause-left
+returns-clause-left c = rw (← c.self.view_is, c.in-Device.is, c.truncate.ensures) (left-within c.args.count _ _ _ _ _ c.know.ensures.few c.read-told.ensures.left)
