@@ -3,7 +3,7 @@
 //! is is looked up once, and handed on.
 #![tactic(auto, using(crate::proofs::AfterLemmas::steps))]
 
-ghost use Rattle.std.specs.Prelude.{◌≡◌, ◌==◌, ◌<◌, ◌≤◌, [], None, Some, IfErr, IfNone, IfOk, IfSome, IsFalse, IsTrue, OnErr, false, if◌then◌else◌, length, not};
+ghost use Rattle.std.specs.Prelude.{◌≡◌, ◌==◌, ◌<◌, ◌≤◌, ◌+◌, ◌++◌, [], None, Some, IfErr, IfNone, IfOk, IfSome, IsFalse, IsTrue, OnErr, false, if◌then◌else◌, length, not};
 ghost use Rattle.qx_machine.specs.Waiting.{is_call, is_gone, offered, waiting_call, wanted};
 ghost use Rattle.qx_machine.specs.Pipes as machine;
 ghost use Rattle.qx_machine.specs.Pipes.{clean_read, clean_write, dismissed, nobody_answered, one_answered, read_told, readers_ended, without_bytes, write_told, writers_ended};
@@ -15,7 +15,7 @@ ghost use Rattle.qx_pipe.specs.inner.Turns.{NobodyWaits, Served, Turning, settli
 ghost use Rattle.qx_queues.specs.Waits.{leaves};
 ghost use Rattle.qx_shared.specs.Shared.{HasPipe, IsCallReceived, pipe_at, waiting_on, went_in, with_pipe_after};
 ghost use Rattle.qx_shared.specs.declared.side.Side.TheVariants.{Writing};
-ghost use Rattle.qx_types.specs.declared.limits.TheConstants.Limits.{TRANSFER};
+ghost use Rattle.qx_types.specs.declared.limits.TheConstants.Limits.{PIPE, TRANSFER};
 ghost use Rattle.qx_types.specs.declared.outcome.Answer.TheVariants.{Failed, Reply as TheReply};
 
 use qx_device::Told;
@@ -128,8 +128,7 @@ pub fn read_alone(
     if size != 0 {
         let count = (count as usize).min(size);
         let (first, second) = shared.front(user, inode, count);
-        reply.push(first);
-        reply.push(second);
+        push_both(reply, first, second);
         shared.drop_front(user, inode, count);
         return Some(AtOnce {
             status: count as u64,
@@ -281,6 +280,18 @@ fn turn(shared: &mut Shared, user: User, inode: u32, device: Option<Device>) -> 
         return None;
     }
     Some(shared.take_bytes(user, inode))
+}
+
+// Bytes in two pieces, of which the second is seldom there, go into a reply.
+fn push_both(reply: &mut Reply, first: &[u8], second: &[u8])
+    requires empty { reply.old ≡ [] }
+    requires room { length first.now + length second.now ≤ PIPE }
+    ensures both { reply.new ≡ first.now ++ second.now }
+{
+    reply.push(first);
+    if !second.is_empty() {
+        reply.push(second);
+    }
 }
 
 // The status of a reply that a call to a device is told; None where it waits or gets an error.

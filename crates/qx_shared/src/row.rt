@@ -155,6 +155,7 @@ impl PipeRow {
     }
 
     /// So many of the first bytes that stand go.
+    #[inline(always)]
     pub(crate) fn drop_front(&mut self, count: usize)
         requires stand { count ≤ length self.old.bytes }
         ensures rest { self.new ≡ row_with_bytes self.old (drop count self.old.bytes) }
@@ -166,7 +167,7 @@ impl PipeRow {
     }
 
     /// Bytes that fit go in last.
-    #[inline(always)]
+    #[inline(never)]
     pub(crate) fn append(&mut self, bytes: &[u8])
         requires fits { length self.old.bytes + length bytes.now ≤ PIPE }
         ensures appended { self.new ≡ row_with_bytes self.old (self.old.bytes ++ bytes.now) }

@@ -1,4 +1,4 @@
-use Rattle.std.proofs.Common.{◌≡◌, ◌∙◌, ◌-◌, None, [], ◌++◌, IsSome, is_some, length, sym, ap, ap₂, subst, take, drop, arith}
+use Rattle.std.proofs.Common.{◌≡◌, ◌∙◌, ◌-◌, None, [], IsSome, is_some, length, sym, ap, ap₂, subst, take, drop, arith}
 use Rattle.std.proofs.lemmas.List.{length-drop}
 use Rattle.qx_types.specs.declared.outcome.Answer.TheVariants.{Reply}
 use Rattle.qx_machine.specs.declared.rows.WaitingCall.{WaitingCall}
@@ -64,8 +64,7 @@ returns-then-size-ne0-clause-told c = λ opened.
     let call = waiting_call opened c.args.count [] in
     let nobody = c.anyone_waits.ensures.alone c.if-anyone_waits.false in
     let count = c.min-count.result in
-    let first : c.push.new.self ≡ c.front.result.0.now = c.push.ensures.behind ∙ ap (λ bytes. bytes ++ c.front.result.0.now) c.requires.empty in
-    let pushed : c.push-then-size-ne0.new.self ≡ take count p.bytes = c.push-then-size-ne0.ensures.behind ∙ ap (λ bytes. bytes ++ c.front.result.1.now) first ∙ c.front.ensures.bytes in
+    let pushed : c.push_both.new.reply ≡ take count p.bytes = c.push_both.ensures.both ∙ c.front.ensures.bytes in
     read-is c.args.manner call p nobody
     ∙ told-alone c.args.manner call p (with_reader p call) nobody _ _ (read-stands c.args.manner call p pipe (omega arith) (omega arith)) _ _ (pipe-gets p pipe call count (omega arith) (omega arith))
     ∙ ap₂ (λ bytes q. one_answered call (Reply count bytes) q) (sym pushed) (sym (pipe-now c.args.shared.now c.drop_front.new.self c.args.user.0 c.args.inode c.requires.pipe (record p { bytes = drop count p.bytes }) c.drop_front.ensures.rest))
