@@ -225,7 +225,7 @@ fn opened_by(
     let Some(connection) = process.conn_of(coid) else {
         return Err(Errno::EBADF);
     };
-    if connection.manager.number() != target.manager.number() {
+    if connection.manager != target.manager {
         return Err(Errno::EBADF);
     }
     match connection.block {
