@@ -14,13 +14,14 @@ impl Plain {
     /// The status of a notification of a process over a block.
     pub fn notify(&mut self, proc: Proc, block: u16, bytes: &[u8]) -> Result<u64, Fault> {
         match from_place(bytes, BODY) {
-            [wanted, code, v0, v1, v2, v3] => {
+            [wanted, code, value @ ..] => {
                 let event = Event {
                     proc,
                     block,
                     wanted: *wanted,
                     code: *code,
-                    value: u32::from_le_bytes([*v0, *v1, *v2, *v3]),
+                    value: number_of(value),
+                    is_wide: value.len() > 4,
                 };
                 self.files.notify(number_at(bytes, 2), event)
             }
@@ -94,4 +95,13 @@ impl Plain {
     pub fn pulse_process(&self, place: usize) -> Option<Proc> {
         self.files.events.pulse_process(place)
     }
+}
+
+/// The number of so many bytes, the lowest first.
+fn number_of(bytes: &[u8]) -> u64 {
+    let mut number: u64 = 0;
+    for byte in bytes.iter().rev() {
+        number = number << 8 | u64::from(*byte);
+    }
+    number
 }

@@ -140,8 +140,11 @@ impl Plain {
         if self.config.name(user).is_none() {
             return Ok(Outcome::WrongState);
         }
-        if threads == 0 || threads > 4 || !is_prio(prio) {
+        if threads == 0 || threads > 4 {
             return Ok(Outcome::Refused(Errno::EINVAL));
+        }
+        if let Some(error) = self.prio_error(user, prio) {
+            return Ok(Outcome::Refused(error));
         }
         let Some(num) = self.free_process(user) else {
             return Ok(Outcome::Refused(Errno::EAGAIN));
@@ -252,6 +255,7 @@ impl Plain {
             | Request::List { coid, .. }
             | Request::Chmod { coid, .. }
             | Request::Notify { coid, .. }
+            | Request::Notify64 { coid, .. }
             | Request::Raw { coid, .. } => {
                 let manager = self.manager_of(proc, *coid)?;
                 Ok(at_manager(manager, Over::Existing(*coid)))
@@ -323,14 +327,26 @@ impl Plain {
     }
 
     fn set_prio(&mut self, thread: Thread, prio: Prio) -> Outcome {
+        let error = self.prio_error(thread.proc.user, prio);
         let Some(row) = self.row_mut(thread) else {
             return Outcome::WrongState;
         };
-        if !is_prio(prio) {
-            return Outcome::Refused(Errno::EINVAL);
+        if let Some(error) = error {
+            return Outcome::Refused(error);
         }
         row.prio = prio;
         Outcome::Done
+    }
+
+    /// Why a user's threads may not have a priority.
+    fn prio_error(&self, user: User, prio: Prio) -> Option<Errno> {
+        if prio.0 == 0 {
+            Some(Errno::EINVAL)
+        } else if prio.0 > self.config.ceiling(user).0 {
+            Some(Errno::EPERM)
+        } else {
+            None
+        }
     }
 
     fn interrupt(&mut self, thread: Thread) -> Result<Outcome, AllocError> {
@@ -712,11 +728,6 @@ fn at_manager<'a>(manager: Manager, over: Over) -> Target<'a> {
         root: None,
         rest: &[],
     }
-}
-
-/// Whether the number is one of a priority.
-fn is_prio(prio: Prio) -> bool {
-    0 < prio.0 && prio.0 <= 63
 }
 
 /// Whether the fields of a request are in their ranges, its bytes beside it: a manager could read them. A connection is

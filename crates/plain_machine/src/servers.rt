@@ -82,7 +82,7 @@ impl Plain {
             let item = Queued {
                 manager,
                 post: Post::Disconnect(server.name),
-                prio: Prio(63),
+                prio: Prio(255),
             };
             line_up(&mut self.lines, item)?;
         }

@@ -203,7 +203,7 @@ impl Plain {
                 let status = self.files.fstat(user, block)?;
                 Ok((0, Vec::from_slice(self.alloc, &status)?))
             }
-            Kind::Notify => Ok((self.notify(proc, block, bytes)?, none)),
+            Kind::Notify { .. } => Ok((self.notify(proc, block, bytes)?, none)),
             _ => {
                 let answers = self.files.close(user, block, moment)?;
                 self.answer_all(answers);

@@ -12,10 +12,10 @@ pub const INPUT: u8 = 1;
 
 pub const OUTPUT: u8 = 2;
 
-/// The bits in the value of a pulse that tell of them.
-const PULSE_INPUT: u32 = 268_435_456;
+/// The bits that tell of them beside a value of 28 bits, and beside one of 60.
+const TOLD: (u64, u64) = (268_435_456, 536_870_912);
 
-const PULSE_OUTPUT: u32 = 536_870_912;
+const TOLD_WIDE: (u64, u64) = (1_152_921_504_606_846_976, 2_305_843_009_213_693_952);
 
 /// What a process wants to be told of a block of its user, and by which code and value.
 #[derive(Clone, Copy)]
@@ -24,7 +24,8 @@ pub struct Event {
     pub block: u16,
     pub wanted: u8,
     pub code: u8,
-    pub value: u32,
+    pub value: u64,
+    pub is_wide: bool,
 }
 
 /// A pulse that its process has not taken yet.
@@ -32,7 +33,7 @@ pub struct Event {
 struct Pulse {
     proc: Proc,
     code: u8,
-    value: u32,
+    value: u64,
 }
 
 /// The armed events in order of arming, each with the conditions that held of its block after the last step, and the
@@ -113,14 +114,14 @@ impl Events {
             self.pulses.push(Pulse {
                 proc: event.proc,
                 code: event.code,
-                value: event.value | pulse_bits(event.wanted & after),
+                value: event.value | pulse_bits(event.wanted & after, event.is_wide),
             })?;
         }
         Ok(())
     }
 
     /// Takes the code and the value of the first pulse of a process.
-    pub fn take_pulse(&mut self, proc: Proc) -> Option<(u8, u32)> {
+    pub fn take_pulse(&mut self, proc: Proc) -> Option<(u8, u64)> {
         let place = self.pulses.iter().position(|pulse| pulse.proc == proc)?;
         let pulse = self.pulses.remove(place);
         Some((pulse.code, pulse.value))
@@ -183,8 +184,9 @@ impl Events {
 }
 
 /// The bits that tell of these conditions.
-fn pulse_bits(told: u8) -> u32 {
-    let input = if told & INPUT == 0 { 0 } else { PULSE_INPUT };
-    let output = if told & OUTPUT == 0 { 0 } else { PULSE_OUTPUT };
+fn pulse_bits(told: u8, is_wide: bool) -> u64 {
+    let (input, output) = if is_wide { TOLD_WIDE } else { TOLD };
+    let input = if told & INPUT == 0 { 0 } else { input };
+    let output = if told & OUTPUT == 0 { 0 } else { output };
     input | output
 }

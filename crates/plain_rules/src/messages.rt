@@ -18,7 +18,7 @@ pub enum Kind {
     Fstat,
     List,
     Chmod,
-    Notify,
+    Notify { is_wide: bool },
 }
 
 /// What bytes are to a manager.
@@ -69,7 +69,8 @@ fn kind_of(number: u16, subtype: u16) -> Option<Kind> {
         (262, 0) => Some(Kind::Fstat),
         (263, 0) => Some(Kind::List),
         (264, 0) => Some(Kind::Chmod),
-        (265, 0 | 1 | 2) => Some(Kind::Notify),
+        (265, 0 | 1 | 2) => Some(Kind::Notify { is_wide: false }),
+        (266, 0 | 1 | 2) => Some(Kind::Notify { is_wide: true }),
         _ => None,
     }
 }
@@ -87,7 +88,7 @@ fn is_formed(kind: Kind, body: &[u8]) -> bool {
         Kind::Lseek => body.len() == 8,
         Kind::List => body.is_empty() || !body.contains(&b'/') && are_components(body),
         Kind::Chmod => is_mode(body),
-        Kind::Notify => is_notify(body),
+        Kind::Notify { is_wide } => is_notify(body, if is_wide { 8 } else { 4 }),
     }
 }
 
@@ -131,11 +132,15 @@ fn is_mode(body: &[u8]) -> bool {
     }
 }
 
-/// One condition or both, a code, and a value of 28 bits.
-fn is_notify(body: &[u8]) -> bool {
+/// One condition or both, a code, and a value of so many bytes, of whose bits the highest four are zeros.
+fn is_notify(body: &[u8], count: usize) -> bool {
     match body {
-        [conditions, code, _, _, _, high] => {
-            0 < *conditions && *conditions < 4 && *code < 128 && *high < 16
+        [conditions, code, value @ ..] => {
+            0 < *conditions
+                && *conditions < 4
+                && *code < 128
+                && value.len() == count
+                && matches!(value.last(), Some(high) if *high < 16)
         }
         _ => false,
     }
@@ -205,6 +210,17 @@ pub fn write(alloc: Global, request: &Request, rest: &[u8]) -> Result<Bytes, All
             let [v0, v1, v2, v3] = value.to_le_bytes();
             let body = [conds.0, *code, v0, v1, v2, v3];
             message(alloc, 265, action_subtype(*action), &body, &[])
+        }
+        Request::Notify64 {
+            action,
+            conds,
+            code,
+            value,
+            ..
+        } => {
+            let [v0, v1, v2, v3, v4, v5, v6, v7] = value.to_le_bytes();
+            let body = [conds.0, *code, v0, v1, v2, v3, v4, v5, v6, v7];
+            message(alloc, 266, action_subtype(*action), &body, &[])
         }
         Request::Raw { bytes, .. } => bytes.clone(),
     }

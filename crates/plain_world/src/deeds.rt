@@ -68,6 +68,7 @@ fn call_deed(request: &Request) -> Deed {
         Request::List { .. } => ("call", "list"),
         Request::Chmod { .. } => ("call", "chmod"),
         Request::Notify { .. } => ("call", "notify"),
+        Request::Notify64 { .. } => ("call", "notify64"),
         Request::Raw { bytes, .. } => ("raw", reading_word(read(bytes.as_slice()))),
     }
 }
@@ -94,7 +95,8 @@ fn kind_word(kind: Kind) -> &'static str {
         Kind::Fstat => "fstat",
         Kind::List => "list",
         Kind::Chmod => "chmod",
-        Kind::Notify => "notify",
+        Kind::Notify { is_wide: false } => "notify",
+        Kind::Notify { is_wide: true } => "notify64",
     }
 }
 
@@ -197,9 +199,10 @@ pub fn answer_deed(plain: &Plain, served: Served) -> Option<Deed> {
         }
         State::Answered(Answer::Failed(Errno::ENOSYS)) => None,
         State::Answered(Answer::Failed(Errno::EBADF))
-            if !matches!(kind, Kind::Read | Kind::Write | Kind::Dup | Kind::Notify) => {
-            Some(("no block", "EBADF"))
-        }
+            if !matches!(
+                kind,
+                Kind::Read | Kind::Write | Kind::Dup | Kind::Notify { .. }
+            ) => { Some(("no block", "EBADF")) }
         State::Answered(Answer::Failed(error)) => Some((word, error.name())),
         State::Waiting { .. } => Some((word, "waits")),
         State::Ready | State::Queued(_) | State::Taken(_) => None,
@@ -239,15 +242,15 @@ fn is_refused(state: &State) -> bool {
 /// The kind of a message and its manager; of a notification its action.
 fn served_word(served: Served) -> &'static str {
     match (served.manager, served.kind, served.subtype) {
-        (Manager::Ram, Kind::Notify, 0) => "poll",
-        (Manager::Ram, Kind::Notify, 1) => "pollarm",
-        (Manager::Ram, Kind::Notify, _) => "tranarm",
-        (Manager::Pipe, Kind::Notify, 0) => "pipe poll",
-        (Manager::Pipe, Kind::Notify, 1) => "pipe pollarm",
-        (Manager::Pipe, Kind::Notify, _) => "pipe tranarm",
-        (Manager::Device(_), Kind::Notify, 0) => "device poll",
-        (Manager::Device(_), Kind::Notify, 1) => "device pollarm",
-        (Manager::Device(_), Kind::Notify, _) => "device tranarm",
+        (Manager::Ram, Kind::Notify { .. }, 0) => "poll",
+        (Manager::Ram, Kind::Notify { .. }, 1) => "pollarm",
+        (Manager::Ram, Kind::Notify { .. }, _) => "tranarm",
+        (Manager::Pipe, Kind::Notify { .. }, 0) => "pipe poll",
+        (Manager::Pipe, Kind::Notify { .. }, 1) => "pipe pollarm",
+        (Manager::Pipe, Kind::Notify { .. }, _) => "pipe tranarm",
+        (Manager::Device(_), Kind::Notify { .. }, 0) => "device poll",
+        (Manager::Device(_), Kind::Notify { .. }, 1) => "device pollarm",
+        (Manager::Device(_), Kind::Notify { .. }, _) => "device tranarm",
         (Manager::Ram, kind, _) => kind_word(kind),
         (Manager::Pipe, kind, _) => pipe_word(kind),
         (Manager::Device(_), kind, _) => device_word(kind),
@@ -289,7 +292,7 @@ fn pipe_word(kind: Kind) -> &'static str {
         Kind::List => "pipe list",
         Kind::Chmod => "pipe chmod",
         Kind::Dup => "pipe dup",
-        Kind::Mknod | Kind::Notify => "no function",
+        Kind::Mknod | Kind::Notify { .. } => "no function",
     }
 }
 
@@ -307,7 +310,7 @@ fn device_word(kind: Kind) -> &'static str {
         Kind::List => "device list",
         Kind::Chmod => "device chmod",
         Kind::Dup => "device dup",
-        Kind::Mknod | Kind::Notify => "no function",
+        Kind::Mknod | Kind::Notify { .. } => "no function",
     }
 }
 
@@ -349,7 +352,7 @@ fn reply_word(served: Served, status: u64, bytes: &[u8]) -> &'static str {
             if status == 0 { "nothing" } else { "something" }
         }
         Kind::Stat | Kind::Fstat => status_word(bytes),
-        Kind::Notify => conditions_word(status),
+        Kind::Notify { .. } => conditions_word(status),
         Kind::Close if served.is_shared => "leaves the block",
         _ => "done",
     }

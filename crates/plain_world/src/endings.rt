@@ -168,7 +168,9 @@ fn counted_word(plain: &Plain, served: Served) -> Option<&'static str> {
             Some("blocks")
         }
         State::Answered(Answer::Failed(Errno::EAGAIN))
-            if matches!(served.kind, Kind::Notify) && plain.has_late_event(user) => Some("events"),
+            if matches!(served.kind, Kind::Notify { .. }) && plain.has_late_event(user) => Some(
+            "events",
+        ),
         _ => None,
     }
 }

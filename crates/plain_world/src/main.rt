@@ -20,7 +20,9 @@ use erased::compare_erased;
 use marks::Before;
 use plain_machine::steps::{Dice, next_exit, next_guest, next_step, next_visit};
 use plain_machine::{Held, Plain, State};
-use qx_types::{Bytes, Config, Manager, MessageBytes, Outcome, Proc, Step, Thread, User, Worker};
+use qx_types::{
+    Bytes, Config, Manager, MessageBytes, Outcome, Prio, Proc, Step, Thread, User, Worker,
+};
 use qx_wire::Parsed;
 use qx_world::{PerformFault, Work, WorkRef, World};
 use std::alloc::{AllocError, Global};
@@ -38,7 +40,7 @@ const VISITED: u32 = 4 * ROUND;
 const GUESTS: u32 = 2 * ROUND;
 
 /// With this seed the steps come to all that has to come.
-const SEED: u64 = 1012;
+const SEED: u64 = 1023;
 
 /// So many of the first steps are run with a trace.
 const TRACED: u32 = 20_000;
@@ -154,16 +156,21 @@ fn take_both(
     Ok(outcome)
 }
 
-/// Four users and four workers.
+/// Four users, of whom three have ceilings of their own, and four workers.
 fn four_users(alloc: Global) -> anyhow::Result<Config> {
     let mut names = Vec::new(alloc);
     for name in ["ann", "bob", "cat", "dan"] {
         names.push(Bytes::from_slice(alloc, name.as_bytes())?)?;
     }
-    match Config::new(names, 4) {
-        Some(config) => Ok(config),
-        None => bail!("the configuration is refused"),
+    let Some(mut config) = Config::new(names, 4) else {
+        bail!("the configuration is refused");
+    };
+    for (user, ceiling) in [(1, 127), (2, 255), (3, 200)] {
+        if config.set_ceiling(User(user), Prio(ceiling)).is_err() {
+            bail!("the ceiling is refused");
+        }
     }
+    Ok(config)
 }
 
 /// Takes a step in the world; a perform by the work that the plain rows say is held.

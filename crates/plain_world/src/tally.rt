@@ -4,9 +4,10 @@ use crate::deeds::Deed;
 use qx_types::{Errno, Item, Outcome};
 
 /// Each outcome that the steps have to come to, and its error. None other may come.
-const OUTCOMES: [(&str, &str); 44] = [
+const OUTCOMES: [(&str, &str); 48] = [
     ("spawned", ""),
     ("refused", "EINVAL"),
+    ("refused", "EPERM"),
     ("refused", "ENAMETOOLONG"),
     ("refused", "EACCES"),
     ("refused", "ENOENT"),
@@ -22,6 +23,9 @@ const OUTCOMES: [(&str, &str); 44] = [
     ("pulse of input", ""),
     ("pulse of output", ""),
     ("pulse of both", ""),
+    ("wide pulse of input", ""),
+    ("wide pulse of output", ""),
+    ("wide pulse of both", ""),
     ("no pulse", ""),
     ("error", "EINVAL"),
     ("error", "ENOSYS"),
@@ -52,7 +56,7 @@ const OUTCOMES: [(&str, &str); 44] = [
 ];
 
 /// Each deed that has to be done. None other may be.
-const DEEDS: [(&str, &str); 55] = [
+const DEEDS: [(&str, &str); 57] = [
     ("call", "open"),
     ("call", "stat"),
     ("call", "unlink"),
@@ -66,6 +70,7 @@ const DEEDS: [(&str, &str); 55] = [
     ("call", "list"),
     ("call", "chmod"),
     ("call", "notify"),
+    ("call", "notify64"),
     ("call", "no server connection"),
     ("raw", "malformed"),
     ("raw", "unknown"),
@@ -82,6 +87,7 @@ const DEEDS: [(&str, &str); 55] = [
     ("raw", "list"),
     ("raw", "chmod"),
     ("raw", "notify"),
+    ("raw", "notify64"),
     ("mount", "ram"),
     ("mount", "pipe"),
     ("mount", "latch"),
@@ -374,8 +380,8 @@ const ENDINGS: [(&str, &str); 56] = [
 /// Which of the outcomes, deeds, answers and endings came, and how long the line was.
 #[derive(Drop)]
 pub struct Tally {
-    outcomes: [bool; 44],
-    deeds: [bool; 55],
+    outcomes: [bool; 48],
+    deeds: [bool; 57],
     answers: [bool; 195],
     endings: [bool; 56],
     longest: usize,
@@ -384,8 +390,8 @@ pub struct Tally {
 impl Tally {
     pub fn new() -> Tally {
         Tally {
-            outcomes: [false; 44],
-            deeds: [false; 55],
+            outcomes: [false; 48],
+            deeds: [false; 57],
             answers: [false; 195],
             endings: [false; 56],
             longest: 0,
@@ -483,12 +489,15 @@ fn outcome_word(outcome: &Outcome) -> &'static str {
     }
 }
 
-/// Which conditions the value of a pulse tells of, by its bits 28 and 29.
-fn pulse_word(value: u32) -> &'static str {
-    match value >> 28 {
-        1 => "pulse of input",
-        2 => "pulse of output",
-        3 => "pulse of both",
+/// Which conditions the value of a pulse tells of, by its bits 60 and 61 or by 28 and 29.
+fn pulse_word(value: u64) -> &'static str {
+    match (value >> 60, value >> 28 & 3) {
+        (1, _) => "wide pulse of input",
+        (2, _) => "wide pulse of output",
+        (3, _) => "wide pulse of both",
+        (_, 1) => "pulse of input",
+        (_, 2) => "pulse of output",
+        (_, 3) => "pulse of both",
         _ => "pulse of nothing",
     }
 }

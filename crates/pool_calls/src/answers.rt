@@ -46,7 +46,7 @@ impl Told {
             Outcome::Refused(error) => self.mix(3, 0, error.name().as_bytes()),
             Outcome::WrongState => self.mix(4, 0, b""),
             Outcome::Spawned(num) => self.mix(5, u64::from(*num), b""),
-            Outcome::Pulse(code, value) => self.mix(6, u64::from(*value), &[*code]),
+            Outcome::Pulse(code, value) => self.mix(6, *value, &[*code]),
             Outcome::NoPulse => self.mix(7, 0, b""),
             Outcome::Done => self.mix(8, 0, b""),
             _ => self.mix(9, 0, b""),

@@ -1,4 +1,4 @@
-ghost use Rattle.std.specs.Prelude.{◌≡◌, ℕ, ◌+◌, ◌-◌, ◌<◌, ◌≤◌, ◌==◌, ◌++◌, ◌^◌, [], ◌∷◌, Bool, None, Ok, Some, IfOk, IfSome, OnOk, OnErr, OnSome, IsOk, IsSome, drop, filter, length, max, not, option_map, slice_get, slice_set, take, if◌then◌else◌};
+ghost use Rattle.std.specs.Prelude.{◌≡◌, ℕ, ◌+◌, ◌-◌, ◌<◌, ◌≤◌, ◌==◌, ◌++◌, ◌^◌, [], ◌∷◌, None, Ok, Some, IfOk, IfSome, OnOk, OnErr, OnSome, IsOk, IsSome, drop, filter, length, max, not, option_map, slice_get, slice_set, take, if◌then◌else◌};
 ghost use Rattle.std.specs.Option.{option_copied};
 ghost use Rattle.std.specs.Result.{result_map_both};
 ghost use Rattle.qx_attr.specs.Counts.{with_number};

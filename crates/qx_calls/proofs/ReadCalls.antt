@@ -5,9 +5,9 @@ use Rattle.std.specs.List.{list_all}
 use Rattle.qx_types.specs.Configuration.{Configuration, IsConfiguration}
 use Rattle.qx_types.specs.declared.names.Thread.{Thread}
 use Rattle.qx_types.specs.declared.request.Request.{Request}
-use Rattle.qx_types.specs.declared.request.Request.TheVariants.{OpenPath, StatPath, Unlink, Mkdir, Read, Write, Close, Dup, Seek, Fstat, List as ListNames, Chmod, Notify, Raw}
+use Rattle.qx_types.specs.declared.request.Request.TheVariants.{OpenPath, StatPath, Unlink, Mkdir, Read, Write, Close, Dup, Seek, Fstat, List as ListNames, Chmod, Notify, Notify64, Raw}
 use Rattle.qx_calls.specs.inner.Calls.{CanSayCall}
-use Rattle.qx_calls.specs.Calls.{call_in_line, call_over_of, call_said, chmod_line, close_line, dup_line, fstat_line, lines_at_path, lines_over, list_line, mkdir_line, name_given, notify_line, open_line, raw_line, read_line, seek_line, stat_line, unlink_line, write_line}
+use Rattle.qx_calls.specs.Calls.{call_in_line, call_over_of, call_said, chmod_line, close_line, dup_line, fstat_line, lines_at_path, lines_over, list_line, mkdir_line, name_given, notify_64_line, notify_line, open_line, raw_line, read_line, seek_line, stat_line, unlink_line, write_line}
 use Rattle.qx_calls.specs.Forms.{CanBeSaid, CanBeWords, at_most, words_for}
 use Rattle.qx_words.specs.Kinds.{AHexByte, APath, SomeBytes, CanName, is_word}
 use Rattle.qx_calls.proofs.ReadForms.{Makes, line_again, one_of_within}
@@ -30,6 +30,7 @@ call_again config thread (ListNames coid []) valid can = line_again list_line co
 call_again config thread (ListNames coid (byte ∷ bytes)) valid can = line_again list_line config (thread, (coid.0, Some (byte ∷ bytes))) valid can
 call_again config thread (Chmod coid mode) valid can = line_again chmod_line config (thread, (coid.0, (mode, tt))) valid can
 call_again config thread (Notify coid action conditions code value) valid can = line_again notify_line config (thread, (coid.0, (action, (conditions, (code, (value, tt)))))) valid can
+call_again config thread (Notify64 coid action conditions code value) valid can = line_again notify_64_line config (thread, (coid.0, (action, (conditions, (code, (value, tt)))))) valid can
 call_again config thread (Raw coid bytes) valid can = line_again raw_line config (thread, (coid.0, (bytes, tt))) valid can
 
 -- so many times one byte are bytes
@@ -67,6 +68,7 @@ over_make users =
     and (λ values can. (can.0, can))
     and (λ values can. (can.0, can))
     and (λ values can. (can.0, (can.0, (can.1.0, names_after users values.1.1 can.1.1))))
+    and (λ values can. (can.0, can))
     and (λ values can. (can.0, can))
     and (λ values can. (can.0, can))
     and (λ values can. (can.0, can))

@@ -4,9 +4,9 @@ use Rattle.qx_types.specs.Configuration.{Configuration}
 use Rattle.qx_types.specs.declared.names.Coid.{Coid}
 use Rattle.qx_types.specs.declared.names.Thread.{Thread}
 use Rattle.qx_types.specs.declared.request.Request.{Request}
-use Rattle.qx_types.specs.declared.request.Request.TheVariants.{OpenPath, StatPath, Unlink, Mkdir, Read, Write, Close, Dup, Seek, Fstat, List as ListNames, Chmod, Notify, Raw}
+use Rattle.qx_types.specs.declared.request.Request.TheVariants.{OpenPath, StatPath, Unlink, Mkdir, Read, Write, Close, Dup, Seek, Fstat, List as ListNames, Chmod, Notify, Notify64, Raw}
 use Rattle.qx_calls.specs.Forms.{◌then◌, at_most, end, Form, Line, Maker, Saying, by, line_text, made_into, read_one_of}
-use Rattle.qx_words.specs.Kinds.{AThread, AByte, ATwoByteNumber, AFourByteNumber, AnOffset, APath, SomeFlags, AMode, SomeBytes, AHexByte, AWhence, AnAction, SomeConditions}
+use Rattle.qx_words.specs.Kinds.{AThread, AByte, ATwoByteNumber, AFourByteNumber, AnEightByteNumber, AnOffset, APath, SomeFlags, AMode, SomeBytes, AHexByte, AWhence, AnAction, SomeConditions}
 
 -- a line of a thread, and of the words that a request is made of
 abbrev pub call_line : List ℕ → (form : Form) → Maker form Request → Line (Thread × Request)
@@ -65,6 +65,9 @@ chmod_line = line_over (codes "chmod") (AMode then end) Chmod
 abbrev pub notify_line : Line (Thread × Request)
 notify_line = line_over (codes "notify") (AnAction then SomeConditions then AByte then AFourByteNumber then end) Notify
 
+abbrev pub notify_64_line : Line (Thread × Request)
+notify_64_line = line_over (codes "notify64") (AnAction then SomeConditions then AByte then AnEightByteNumber then end) Notify64
+
 abbrev pub raw_line : Line (Thread × Request)
 raw_line = line_over (codes "raw") (SomeBytes then end) Raw
 
@@ -73,7 +76,7 @@ lines_at_path = open_line ∷ stat_line ∷ unlink_line ∷ mkdir_line ∷ []
 
 abbrev pub lines_over : List (Line (Thread × Request))
 lines_over =
-    read_line ∷ write_line ∷ fill_line ∷ close_line ∷ dup_line ∷ seek_line ∷ fstat_line ∷ list_line ∷ chmod_line ∷ notify_line ∷ raw_line ∷ []
+    read_line ∷ write_line ∷ fill_line ∷ close_line ∷ dup_line ∷ seek_line ∷ fstat_line ∷ list_line ∷ chmod_line ∷ notify_line ∷ notify_64_line ∷ raw_line ∷ []
 
 -- a call over a connection, by the first word of its line and the others
 unfoldable pub call_over_of : List (List ℕ) → List ℕ → List (List ℕ) → Option (Thread × Request)
@@ -103,6 +106,7 @@ call_said thread (Fstat coid) = by fstat_line (thread, (coid.0, tt))
 call_said thread (ListNames coid after) = by list_line (thread, (coid.0, name_given after))
 call_said thread (Chmod coid mode) = by chmod_line (thread, (coid.0, (mode, tt)))
 call_said thread (Notify coid action conditions code value) = by notify_line (thread, (coid.0, (action, (conditions, (code, (value, tt))))))
+call_said thread (Notify64 coid action conditions code value) = by notify_64_line (thread, (coid.0, (action, (conditions, (code, (value, tt))))))
 call_said thread (Raw coid bytes) = by raw_line (thread, (coid.0, (bytes, tt)))
 
 -- the call as its line

@@ -1,15 +1,15 @@
 //! What the lines that call ask for.
 
-ghost use Rattle.std.specs.Prelude.{◌≡◌, ◌∷◌, [], IfOk, map};
-ghost use Rattle.qx_calls.specs.Calls.{call_in_line, call_over_of, chmod_line, close_line, connection_numbered, dup_line, fill_line, fstat_line, list_line, mkdir_line, notify_line, open_line, raw_line, read_line, seek_line, stat_line, unlink_line, write_line};
+ghost use Rattle.std.specs.Prelude.{◌≡◌, ◌∷◌, [], IfOk, if◌then◌else◌, map};
+ghost use Rattle.qx_calls.specs.Calls.{call_in_line, call_over_of, chmod_line, close_line, connection_numbered, dup_line, fill_line, fstat_line, list_line, mkdir_line, notify_64_line, notify_line, open_line, raw_line, read_line, seek_line, stat_line, unlink_line, write_line};
 ghost use Rattle.qx_calls.specs.Forms.{◌then◌, end, read_form, read_words};
 ghost use Rattle.qx_words.specs.Kinds.{AThread, AByte, APath, SomeBytes};
 
 use qx_types::{Bytes, Coid, NoMemory, Request, Thread};
 use qx_words::Users;
 use qx_words::words::{
-    action, byte, bytes, conditions, flags, four_byte_number, hex_byte, mode, offset, thread,
-    two_byte_number, whence,
+    action, byte, bytes, conditions, flags, four_byte_number, hex_byte, mode, moment, offset,
+    thread, two_byte_number, whence,
 };
 use std::alloc::Global;
 
@@ -237,9 +237,9 @@ fn chmod(users: &Users, words: &[&[u8]]) -> Option<Call>
     Some((thread, Request::Chmod { coid, mode }))
 }
 
-/// `notify THREAD CONNECTION poll|pollarm|tranarm CONDITIONS CODE VALUE`
-fn notify(users: &Users, words: &[&[u8]]) -> Option<Call>
-    ensures call { result ≡ read_form notify_line users.now (map (λ word. word.now) words.now) }
+/// `notify THREAD CONNECTION poll|pollarm|tranarm CONDITIONS CODE VALUE`, or `notify64`, whose value is a wide one.
+fn notify(users: &Users, words: &[&[u8]], is_wide: bool) -> Option<Call>
+    ensures call { result ≡ (if is_wide then read_form notify_64_line else read_form notify_line) users.now (map (λ word. word.now) words.now) }
 {
     let [
         thread_word,
@@ -256,17 +256,24 @@ fn notify(users: &Users, words: &[&[u8]]) -> Option<Call>
     let action = action(*action_word)?;
     let conds = conditions(*conditions_word)?;
     let code = byte(*code_word)?;
-    let value = four_byte_number(*value_word)?;
-    Some((
-        thread,
+    let request = if is_wide {
+        Request::Notify64 {
+            coid,
+            action,
+            conds,
+            code,
+            value: moment(*value_word)?,
+        }
+    } else {
         Request::Notify {
             coid,
             action,
             conds,
             code,
-            value,
-        },
-    ))
+            value: four_byte_number(*value_word)?,
+        }
+    };
+    Some((thread, request))
 }
 
 /// `raw THREAD CONNECTION BYTES`
@@ -308,7 +315,9 @@ fn call_over(
     } else if name == b"chmod".as_slice() {
         Ok(chmod(users, words))
     } else if name == b"notify".as_slice() {
-        Ok(notify(users, words))
+        Ok(notify(users, words, false))
+    } else if name == b"notify64".as_slice() {
+        Ok(notify(users, words, true))
     } else if name == b"raw".as_slice() {
         raw(alloc, users, words)
     } else {

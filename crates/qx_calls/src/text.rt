@@ -22,7 +22,7 @@ struct Notification {
     action: NotifyAction,
     conds: Conds,
     code: u8,
-    value: u32,
+    value: u64,
 }
 
 /// The line that makes a call.
@@ -62,9 +62,24 @@ pub fn push_call(
                 action: *action,
                 conds: *conds,
                 code: *code,
-                value: *value,
+                value: u64::from(*value),
             };
             push_notify(text, config, thread, *coid, notification)
+        }
+        Request::Notify64 {
+            coid,
+            action,
+            conds,
+            code,
+            value,
+        } => {
+            let notification = Notification {
+                action: *action,
+                conds: *conds,
+                code: *code,
+                value: *value,
+            };
+            push_notify64(text, config, thread, *coid, notification)
         }
         Request::Raw { coid, bytes } => push_raw(text, config, thread, *coid, bytes),
     }
@@ -308,6 +323,21 @@ fn push_notify(
     push_notification(text, notification)
 }
 
+#[tactic(auto, unfolding(crate::specs::Calls::call_text))]
+fn push_notify64(
+    text: &mut Vec<u8>,
+    config: &Config,
+    thread: Thread,
+    coid: Coid,
+    notification: Notification,
+) -> Result<(), NoMemory>
+    ensures ok { OnOk result (text.new.items ≡ text.old.items ++ call_text config.now thread (Request.Notify64 coid notification.action notification.conds notification.code notification.value)) }
+{
+    push_over(text, config, b"notify64", thread, coid)?;
+    text.push(b' ')?;
+    push_notification(text, notification)
+}
+
 /// A notification's words.
 fn push_notification(text: &mut Vec<u8>, notification: Notification) -> Result<(), NoMemory>
     ensures ok { OnOk result (text.new.items ≡ text.old.items ++ join_with_byte 32 (action_text notification.action ∷ conditions_text notification.conds ∷ decimal notification.code ∷ decimal notification.value ∷ [])) }
@@ -316,7 +346,7 @@ fn push_notification(text: &mut Vec<u8>, notification: Notification) -> Result<(
     text.push(b' ')?;
     push_conditions(text, notification.conds)?;
     push_next_number(text, notification.code as u64)?;
-    push_next_number(text, notification.value as u64)
+    push_next_number(text, notification.value)
 }
 
 #[tactic(auto, unfolding(crate::specs::Calls::call_text))]

@@ -1,14 +1,13 @@
 -- A thread takes its answer, or gets another priority: its message stands where it stood.
 use Rattle.std.proofs.Common.{◌≡◌, ◌⊎◌, inl, inr, ℕ, false, List, Option, Some, None, refl, sym, ◌∙◌}
 use Rattle.std.specs.Prelude.{MatchOption, option_map, slice_set}
-use Rattle.std.proofs.lemmas.Bool.{cases_Bool}
 use Rattle.qx_types.specs.declared.names.Thread.{Thread}
 use Rattle.qx_types.specs.declared.outcome.Answer.{Answer}
 use Rattle.qx_paths.specs.Prefixes.{MountPoint}
 use Rattle.qx_machine.specs.declared.rows.State.{State}
 use Rattle.qx_machine.specs.declared.rows.State.TheVariants.{Answered, Queued, Ready, Taken, Waiting}
 use Rattle.qx_machine.specs.declared.rows.ThreadRow.{ThreadRow}
-use Rattle.qx_machine.specs.Clients.{answer_in, is_prio}
+use Rattle.qx_machine.specs.Clients.{answer_in, may_give}
 use Rattle.qx_machine.specs.Events.{Events}
 use Rattle.qx_machine.specs.Processes.{Process, ranked_thread, ready_thread, with_thread}
 use Rattle.qx_isolation.specs.Rows.{row_at, with_row}
@@ -21,7 +20,7 @@ use Rattle.qx_chan.specs.Channel.{Channel, after_taking}
 use Rattle.qx_chan.specs.inner.Kept.{StandTogether, asked_call, is_asked_at, is_queued_at, is_waiting_for, stands_at, waits_for}
 use Rattle.qx_chan.specs.Users.{Users, thread_row, with_thread_row}
 use Rattle.qx_chan.proofs.ProcessLemmas.{with_thread-put, with_thread-same}
-use Rattle.qx_chan.proofs.RowReads.{option_cases}
+use Rattle.qx_chan.proofs.RowReads.{option_cases, result_cases}
 use Rattle.qx_chan.proofs.ThreadLemmas.{Kept-thread}
 use Rattle.qx_chan.proofs.WaitLemmas.{no-wait}
 
@@ -70,14 +69,14 @@ after_answer users lines pipes events mounts room thread row after (Some given) 
     rw (same, with_thread-put users thread ready_thread row (sym there), ← there, ← is) refl
 
 -- another priority changes one row or none
-ranked : (rows : List (Option Process)) (process thread prio : ℕ) → (after_or rows (with_prio rows process thread prio) ≡ rows) ⊎ (after_or rows (with_prio rows process thread prio) ≡ with_row rows process (with_thread thread (ranked_thread prio)))
-ranked rows process thread prio = elim (option_cases (row_at rows process)) [
+ranked : (ceiling : ℕ) (rows : List (Option Process)) (process thread prio : ℕ) → (after_or rows (with_prio ceiling rows process thread prio) ≡ rows) ⊎ (after_or rows (with_prio ceiling rows process thread prio) ≡ with_row rows process (with_thread thread (ranked_thread prio)))
+ranked ceiling rows process thread prio = elim (option_cases (row_at rows process)) [
   | inl none ↦ inl (rw none refl)
   | inr there ↦ elim (option_cases (row_at there.0.threads thread)) [
     | inl none ↦ inl (rw (there.1, none) refl)
-    | inr row ↦ elim (cases_Bool (is_prio prio)) [
-      | inl valid ↦ inr (rw (there.1, row.1, valid) refl)
-      | inr wrong ↦ inl (rw (there.1, row.1, wrong) refl)
+    | inr row ↦ elim (result_cases (may_give ceiling prio)) [
+      | inl allowed ↦ inr (rw (there.1, row.1, allowed.1) refl)
+      | inr refused ↦ inl (rw (there.1, row.1, refused.1) refl)
     ]
   ]
 ]
@@ -94,9 +93,9 @@ still_waits : (prio call : ℕ) (o : Option ThreadRow) → waits_for call (optio
 still_waits prio call None = refl
 still_waits prio call (Some row) = refl
 
-pub Kept-ranked : (users : Users) (queues : Shared) (thread : Thread) (prio : ℕ) (rows : List (Option Process)) → Some rows ≡ row_at users thread.proc.user.0 → StandTogether users queues
-    → StandTogether (slice_set users thread.proc.user.0 (Some (after_or rows (with_prio rows thread.proc.num thread.tid prio)))) queues
-Kept-ranked users queues thread prio rows there kept = elim (ranked rows thread.proc.num thread.tid prio) [
+pub Kept-ranked : (ceiling : ℕ) (users : Users) (queues : Shared) (thread : Thread) (prio : ℕ) (rows : List (Option Process)) → Some rows ≡ row_at users thread.proc.user.0 → StandTogether users queues
+    → StandTogether (slice_set users thread.proc.user.0 (Some (after_or rows (with_prio ceiling rows thread.proc.num thread.tid prio)))) queues
+Kept-ranked ceiling users queues thread prio rows there kept = elim (ranked ceiling rows thread.proc.num thread.tid prio) [
   | inl same ↦ rw (same, set-row users thread.proc.user.0 rows (sym there)) kept
   | inr changed ↦ rw (changed, ← put) (Kept-thread users queues thread (ranked_thread prio) kept (λ at. still_stands prio at (thread_row users thread)) (λ at call. still_asked prio at call (thread_row users thread)) (λ call is. still_waits prio call (thread_row users thread) ∙ is))
 ]

@@ -83,11 +83,11 @@ with_process_and_line c thread process manager line = record c {
   lines = with_line c.lines (manager_number manager) line;
 }
 
--- once a process is started, if that is not refused
-abbrev pub after_spawn : Channel → ℕ → ℕ → ℕ → Channel
-after_spawn c user threads prio = record c {
-  users = with_row c.users user (λ processes. spawned processes threads prio (spawn_number processes threads prio));
-  room = room_started c.room threads (spawn_number_in threads prio (row_at c.users user));
+-- once a process of a user with this ceiling is started, if that is not refused
+abbrev pub after_spawn : ℕ → Channel → ℕ → ℕ → ℕ → Channel
+after_spawn ceiling c user threads prio = record c {
+  users = with_row c.users user (λ processes. spawned processes threads prio (spawn_number ceiling processes threads prio));
+  room = room_started c.room threads (spawn_number_in ceiling threads prio (row_at c.users user));
 }
 
 -- once a thread's message is sent, with room for the disconnect node of what it goes over
@@ -168,9 +168,9 @@ with_pulse_taken c proc _ _ = c
 abbrev pub after_pulse : Channel → Proc → Channel
 after_pulse c proc = with_pulse_taken c proc (living (process_of c.users proc)) (first_pulse proc.num (channel_events c proc.user.0))
 
--- once a thread has another priority, if that is not refused
-abbrev pub after_ranking : Channel → Thread → ℕ → Channel
-after_ranking c thread prio = record c { users = with_row c.users thread.proc.user.0 (λ processes. after_or processes (with_prio processes thread.proc.num thread.tid prio)) }
+-- once a thread of a user with this ceiling has another priority, if that is not refused
+abbrev pub after_ranking : ℕ → Channel → Thread → ℕ → Channel
+after_ranking ceiling c thread prio = record c { users = with_row c.users thread.proc.user.0 (λ processes. after_or processes (with_prio ceiling processes thread.proc.num thread.tid prio)) }
 
 -- ---- the end of a process
 

@@ -42,15 +42,15 @@ with_process_of users proc change = with_row users proc.user.0 (λ processes. wi
 abbrev pub with_thread_row : Users → Thread → (ThreadRow → ThreadRow) → Users
 with_thread_row users thread change = with_process_of users thread.proc (with_thread thread.tid change)
 
--- the number of a process of a user that would start now
-abbrev pub spawn_number_in : ℕ → ℕ → Option (List (Option Process)) → Result ℕ Outcome
-spawn_number_in threads prio None = Err WrongState
-spawn_number_in threads prio (Some processes) = spawn_number processes threads prio
+-- the number of a process of a user with this ceiling that would start now
+abbrev pub spawn_number_in : ℕ → ℕ → ℕ → Option (List (Option Process)) → Result ℕ Outcome
+spawn_number_in ceiling threads prio None = Err WrongState
+spawn_number_in ceiling threads prio (Some processes) = spawn_number ceiling processes threads prio
 
 -- how a change of a thread's priority is judged
-abbrev pub prio_outcome_in : ℕ → ℕ → ℕ → Option (List (Option Process)) → Outcome
-prio_outcome_in process thread prio None = WrongState
-prio_outcome_in process thread prio (Some processes) = done_or (with_prio processes process thread prio)
+abbrev pub prio_outcome_in : ℕ → ℕ → ℕ → ℕ → Option (List (Option Process)) → Outcome
+prio_outcome_in ceiling process thread prio None = WrongState
+prio_outcome_in ceiling process thread prio (Some processes) = done_or (with_prio ceiling processes process thread prio)
 
 -- the thread is there, and waits for nothing
 abbrev pub IsThreadReady : Option ThreadRow → Type 0

@@ -108,19 +108,25 @@ impl Channel {
         self.tables.shared.len(manager)
     }
 
-    /// Starts a process of 1 to 4 ready threads of a priority from 1 to 63, under the lowest free number (C Library
-    /// Reference: `spawn`). `WrongState` for a user who is not there; EINVAL for other numbers; EAGAIN where the user has 16
-    /// processes. A spawn that is refused wants no memory.
-    pub fn spawn(&mut self, user: User, threads: u8, prio: Prio) -> Result<Outcome, AllocError>
-        ensures outcome { IfOk result (λ outcome. outcome ≡ spawn_outcome (spawn_number_in threads prio.0 (row_at self.old.users user.0))) }
-        ensures ok { OnOk result (self.new ≡ after_spawn self.old user.0 threads prio.0) }
-        ensures sure { IsErr (spawn_number_in threads prio.0 (row_at self.old.users user.0)) → IsOk result }
+    /// Starts a process of a user with this ceiling, of 1 to 4 ready threads of a priority from 1 to the ceiling, under the
+    /// lowest free number (C Library Reference: `spawn`). `WrongState` for a user who is not there; EINVAL for other numbers;
+    /// EPERM for a priority above the ceiling; EAGAIN where the user has 16 processes. A spawn that is refused wants no memory.
+    pub fn spawn(
+        &mut self,
+        ceiling: Prio,
+        user: User,
+        threads: u8,
+        prio: Prio,
+    ) -> Result<Outcome, AllocError>
+        ensures outcome { IfOk result (λ outcome. outcome ≡ spawn_outcome (spawn_number_in ceiling.0 threads prio.0 (row_at self.old.users user.0))) }
+        ensures ok { OnOk result (self.new ≡ after_spawn ceiling.0 self.old user.0 threads prio.0) }
+        ensures sure { IsErr (spawn_number_in ceiling.0 threads prio.0 (row_at self.old.users user.0)) → IsOk result }
         ensures err { OnErr result (self.new ≡ record self.old { room = self.new.room }) }
         ensures spare { self.new.room ≤ max self.old.room (2 * threads) }
     {
-        match self.spawn_number(user, threads, prio) {
+        match self.spawn_number(ceiling, user, threads, prio) {
             Ok(number) => {
-                self.start(Proc { user, num: number }, threads, prio)?;
+                self.start(ceiling, Proc { user, num: number }, threads, prio)?;
                 Ok(Outcome::Spawned(number))
             }
             Err(outcome) => Ok(outcome),
@@ -128,24 +134,36 @@ impl Channel {
     }
 
     /// The number of a process that would start now, or how the spawn is refused.
-    fn spawn_number(&self, user: User, threads: u8, prio: Prio) -> Result<u8, Outcome>
-        ensures number { result ≡ spawn_number_in threads prio.0 (row_at self.now.users user.0) }
+    fn spawn_number(
+        &self,
+        ceiling: Prio,
+        user: User,
+        threads: u8,
+        prio: Prio,
+    ) -> Result<u8, Outcome>
+        ensures number { result ≡ spawn_number_in ceiling.0 threads prio.0 (row_at self.now.users user.0) }
     {
         match self.users.processes(user) {
-            Some(processes) => processes.spawn_number(threads, prio),
+            Some(processes) => processes.spawn_number(ceiling, threads, prio),
             None => Err(Outcome::WrongState),
         }
     }
 
     /// Starts a process under the number that it is to have: the room for its threads' nodes, its row, then the nodes.
-    fn start(&mut self, proc: Proc, threads: u8, prio: Prio) -> Result<(), AllocError>
-        requires number { spawn_number_in threads prio.0 (row_at self.old.users proc.user.0) ≡ Ok proc.num }
-        ensures ok { OnOk result (self.new ≡ after_spawn self.old proc.user.0 threads prio.0) }
+    fn start(
+        &mut self,
+        ceiling: Prio,
+        proc: Proc,
+        threads: u8,
+        prio: Prio,
+    ) -> Result<(), AllocError>
+        requires number { spawn_number_in ceiling.0 threads prio.0 (row_at self.old.users proc.user.0) ≡ Ok proc.num }
+        ensures ok { OnOk result (self.new ≡ after_spawn ceiling.0 self.old proc.user.0 threads prio.0) }
         ensures err { OnErr result (self.new ≡ record self.old { room = self.new.room }) }
         ensures spare { self.new.room ≤ max self.old.room (2 * threads) }
     {
         self.tables.shared.reserve(threads)?;
-        self.users.spawn(proc.user, threads, prio)?;
+        self.users.spawn(ceiling, proc.user, threads, prio)?;
         self.tables.shared.add_process(proc, threads, prio);
         Ok(())
     }
@@ -284,16 +302,17 @@ impl Channel {
         }
     }
 
-    /// A thread gets another priority, from 1 to 63; a message that it sent keeps its own (C Library Reference: `SchedSet`).
-    /// `WrongState` where the thread is not there, then EINVAL for another number.
-    pub fn set_prio(&mut self, thread: Thread, prio: Prio) -> Outcome
-        ensures outcome { result ≡ prio_outcome_in thread.proc.num thread.tid prio.0 (row_at self.old.users thread.proc.user.0) }
-        ensures ranked { self.new ≡ after_ranking self.old thread prio.0 }
+    /// A thread of a user with this ceiling gets another priority, from 1 to the ceiling; a message that it sent keeps its own
+    /// (C Library Reference: `SchedSet`). `WrongState` where the thread is not there, then EINVAL for 0, then EPERM for one
+    /// above the ceiling.
+    pub fn set_prio(&mut self, ceiling: Prio, thread: Thread, prio: Prio) -> Outcome
+        ensures outcome { result ≡ prio_outcome_in ceiling.0 thread.proc.num thread.tid prio.0 (row_at self.old.users thread.proc.user.0) }
+        ensures ranked { self.new ≡ after_ranking ceiling.0 self.old thread prio.0 }
     {
         let Some(processes) = self.users.processes_mut(thread.proc.user) else {
             return Outcome::WrongState;
         };
-        processes.set_prio(thread.proc.num, thread.tid, prio)
+        processes.set_prio(ceiling, thread.proc.num, thread.tid, prio)
     }
 }
 

@@ -134,15 +134,21 @@ impl Users {
         self.process_there(thread.proc).thread_there(thread.tid)
     }
 
-    /// Starts a process of a user.
+    /// Starts a process of a user with this ceiling.
     #[tactic(auto, using(crate::proofs::ProcessLemmas::lends))]
-    pub fn spawn(&mut self, user: User, threads: u8, prio: Prio) -> Result<(), AllocError>
-        ensures ok { OnOk result (self.new ≡ with_row self.old user.0 (λ processes. spawned processes threads prio.0 (spawn_number processes threads prio.0))) }
+    pub fn spawn(
+        &mut self,
+        ceiling: Prio,
+        user: User,
+        threads: u8,
+        prio: Prio,
+    ) -> Result<(), AllocError>
+        ensures ok { OnOk result (self.new ≡ with_row self.old user.0 (λ processes. spawned processes threads prio.0 (spawn_number ceiling.0 processes threads prio.0))) }
         ensures places { HasPlace (row_at self.old user.0) }
         ensures err { OnErr result (self.new ≡ self.old) }
     {
         if let Some(processes) = self.processes_mut(user) {
-            processes.spawn(threads, prio)?;
+            processes.spawn(ceiling, threads, prio)?;
         }
         Ok(())
     }

@@ -4,15 +4,15 @@ use Rattle.std.specs.Prelude.{◌&&◌, ◌||◌, not, Option, Some, None, Resul
 use Rattle.std.specs.List.{AllByRecursion, list_any}
 use Rattle.std.proofs.lemmas.Bool.{and_parts, cases_eq, cond_both, eq-eqb, eqb-true, ne_eqb}
 use Rattle.std.proofs.lemmas.Option.{same_Some}
-use Rattle.qx_types.specs.Configuration.{Configuration, name_bytes}
+use Rattle.qx_types.specs.Configuration.{Configuration, ceiling_of, name_bytes}
 use Rattle.qx_types.specs.Managers.{manager_number}
 use Rattle.qx_errno.specs.declared.Errno.{Errno}
-use Rattle.qx_errno.specs.declared.Errno.TheVariants.{EBADF, EINTR, EINVAL}
+use Rattle.qx_errno.specs.declared.Errno.TheVariants.{EBADF, EINTR}
 use Rattle.qx_types.specs.declared.names.Coid.{Coid}
 use Rattle.qx_types.specs.declared.names.Manager.{Manager}
 use Rattle.qx_types.specs.declared.names.Thread.{Thread}
 use Rattle.qx_types.specs.declared.outcome.Answer.TheVariants as answer
-use Rattle.qx_types.specs.declared.outcome.Outcome.TheVariants.{Refused, WrongState}
+use Rattle.qx_types.specs.declared.outcome.Outcome.TheVariants.{WrongState}
 use Rattle.qx_types.specs.declared.request.Request.{Request}
 use Rattle.qx_types.specs.declared.step.Step.{Step}
 use Rattle.qx_types.specs.declared.step.Step.TheVariants.{Spawn, Exit, Call, TakeReply, TakePulse, SetPrio, Interrupt, Mount}
@@ -38,7 +38,7 @@ use Rattle.qx_machine.specs.declared.rows.State.TheVariants as state
 use Rattle.qx_machine.specs.declared.rows.Target.{Target}
 use Rattle.qx_machine.specs.declared.rows.ThreadRow.{ThreadRow}
 use Rattle.qx_machine.specs.Calls.{address, bytes_of, content_of, is_ready, may_call}
-use Rattle.qx_machine.specs.Clients.{ClientStep, answer_in, call, client_given, interrupt_in, is_prio, mount_by, pulse_taken, set_prio, spawn, spawn_number, take_reply, target_by, without_process}
+use Rattle.qx_machine.specs.Clients.{ClientStep, answer_in, call, client_given, interrupt_in, may_give, mount_by, pulse_taken, set_prio, spawn, spawn_number, take_reply, target_by, without_process}
 use Rattle.qx_machine.specs.Defaults.{is_own}
 use Rattle.qx_machine.specs.Events.{first_pulse}
 use Rattle.qx_machine.specs.Functions.{Deed, Reply, new_coid}
@@ -486,9 +486,9 @@ module _ (part : Part) (stands : Stands part) (h : Clientele part) where
   abbrev Gave : ClientStep → Type 0
   Gave given = Clientele given.part
 
-  spawn_clientele : (threads prio : ℕ) → Gives Gave (spawn part threads prio)
-  spawn_clientele threads prio =
-      gives_by (λ number. row_at part.processes number ≡ None) _ (spawn_number part.processes threads prio) _ (spawn_free part threads prio) (λ number free.
+  spawn_clientele : (ceiling threads prio : ℕ) → Gives Gave (spawn ceiling part threads prio)
+  spawn_clientele ceiling threads prio =
+      gives_by (λ number. row_at part.processes number ≡ None) _ (spawn_number ceiling part.processes threads prio) _ (spawn_free ceiling part threads prio) (λ number free.
       gives_done _ _ (same_clientele part h _ (spawn_continues part.resources.mounts part.processes h.sound number threads prio free)))
 
   call_clientele : (config : Configuration) (user : ℕ) (thread : Thread) (asked : Request) → Gives Gave (call config user part thread asked)
@@ -514,10 +514,10 @@ module _ (part : Part) (stands : Stands part) (h : Clientele part) where
       gives_on _ (found (answer_in row.state) WrongState) _ (λ given answered.
       gives_done _ _ (thread_clientele part h thread.proc.num thread.tid ready_thread (λ other target there. absurd (cc)))))
 
-  prio_clientele : (thread : Thread) (prio : ℕ) → Gives Gave (set_prio part thread prio)
-  prio_clientele thread prio =
+  prio_clientele : (ceiling : ℕ) (thread : Thread) (prio : ℕ) → Gives Gave (set_prio ceiling part thread prio)
+  prio_clientele ceiling thread prio =
       gives_on _ (found (thread_at part thread.proc.num thread.tid) WrongState) _ (λ row is.
-      gives_on _ (need (is_prio prio) (Refused EINVAL)) _ (λ valid is_valid.
+      gives_on _ (may_give ceiling prio) _ (λ allowed is_allowed.
       gives_done _ _ (thread_clientele part h thread.proc.num thread.tid (ranked_thread prio) (λ other target there. there))))
 
   asked_clientele : (thread : Thread) → Clientele (with_process thread.proc.num (with_thread thread.tid asked_thread) part)
@@ -554,12 +554,12 @@ module _ (part : Part) (stands : Stands part) (h : Clientele part) where
   }
 
   client_given-clientele : (config : Configuration) (user : ℕ) (held : List OwnItem) (e : Step) → Gives Gave (client_given config user held part e)
-  client_given-clientele config user held (Spawn of_user threads prio) = spawn_clientele threads prio.0
+  client_given-clientele config user held (Spawn of_user threads prio) = spawn_clientele (ceiling_of config user) threads prio.0
   client_given-clientele config user held (Exit proc) = gives_on _ (found (living (row_at part.processes proc.num)) WrongState) _ (λ process is. gives_done _ _ (exit_clientele proc.num))
   client_given-clientele config user held (Call thread asked) = call_clientele config user thread asked
   client_given-clientele config user held (TakeReply thread) = reply_clientele thread
   client_given-clientele config user held (TakePulse proc) = gives_on _ (found (living (row_at part.processes proc.num)) WrongState) _ (λ process is. gives_done _ _ (pulse_taken-clientele proc.num (first_pulse proc.num part.resources.events)))
-  client_given-clientele config user held (SetPrio thread prio) = prio_clientele thread prio.0
+  client_given-clientele config user held (SetPrio thread prio) = prio_clientele (ceiling_of config user) thread prio.0
   client_given-clientele config user held (Interrupt thread) = gives_on _ (found (thread_at part thread.proc.num thread.tid) WrongState) _ (λ row is. gives_done _ _ (interrupt_clientele thread row.calls row (found-row _ _ row is) row.state refl))
   client_given-clientele config user held (Mount thread path manager) =
       gives_by (λ (mount : MountPoint). MayHappen (Mounts mount) part.resources) _ (mount_by config user part thread path manager) _ (mount_by-gives config user part thread path manager) (λ mount may. gives_done _ _ (mounted_clientele mount may))

@@ -4,13 +4,13 @@ use Rattle.std.specs.Prelude.{Option, Some, None, Result, Ok, Err, is_none}
 use Rattle.std.proofs.lemmas.Bool.{cond_both}
 use Rattle.std.proofs.lemmas.List.Sums.{sum_by-append}
 use Rattle.std.proofs.lemmas.Option.{same_Some}
-use Rattle.qx_types.specs.Configuration.{Configuration}
-use Rattle.qx_errno.specs.declared.Errno.TheVariants.{EINTR, EINVAL}
+use Rattle.qx_types.specs.Configuration.{Configuration, ceiling_of}
+use Rattle.qx_errno.specs.declared.Errno.TheVariants.{EINTR}
 use Rattle.qx_types.specs.declared.limits.TheConstants.Limits.{FIRST_CONNECTION, INODES}
 use Rattle.qx_types.specs.declared.names.Thread.{Thread}
 use Rattle.qx_types.specs.declared.outcome.Answer.TheVariants as answer
 use Rattle.qx_types.specs.declared.outcome.Outcome.{Outcome}
-use Rattle.qx_types.specs.declared.outcome.Outcome.TheVariants.{Refused, WrongState}
+use Rattle.qx_types.specs.declared.outcome.Outcome.TheVariants.{WrongState}
 use Rattle.qx_types.specs.declared.request.Request.{Request}
 use Rattle.qx_types.specs.declared.step.Step.{Step}
 use Rattle.qx_types.specs.declared.step.Step.TheVariants.{Spawn, Exit, Call, TakeReply, TakePulse, SetPrio, Interrupt, Mount}
@@ -28,10 +28,10 @@ use Rattle.qx_machine.specs.declared.rows.State.{State}
 use Rattle.qx_machine.specs.declared.rows.State.TheVariants as state
 use Rattle.qx_machine.specs.declared.rows.ThreadRow.{ThreadRow}
 use Rattle.qx_machine.specs.Calls.{bytes_of, content_of}
-use Rattle.qx_machine.specs.Clients.{ClientStep, answer_in, call, client_given, dropped, dropped_by, dropped_in, interrupt_in, is_prio, mount_by, or_unchanged, pulse_taken, set_prio, spawn, spawn_number, take_reply, target_by, without_process}
+use Rattle.qx_machine.specs.Clients.{ClientStep, answer_in, call, client_given, dropped, dropped_by, dropped_in, interrupt_in, may_give, mount_by, or_unchanged, pulse_taken, set_prio, spawn, spawn_number, take_reply, target_by, without_process}
 use Rattle.qx_machine.specs.Events.{first_pulse}
 use Rattle.qx_machine.specs.Functions.{new_coid}
-use Rattle.qx_isolation.specs.Judgements.{found, need}
+use Rattle.qx_isolation.specs.Judgements.{found}
 use Rattle.qx_machine.specs.Mounting.{with_mount}
 use Rattle.qx_machine.specs.Parts.{Change, Part, Put, Remove, disconnect, disconnects, thread_at, with_process}
 use Rattle.qx_machine.specs.Processes.{Process, after_error, answered_thread, asked_thread, ended, has_ended, living, lost_servers, new_process, queued_thread, ranked_thread, ready_thread, with_over, with_queued, with_thread}
@@ -117,9 +117,9 @@ module _ (part : Part) (named : Client → ℕ) (well : StandsWell part) (h : Co
     waiters = h.waiters;
   }
 
-  spawn_connected : (threads prio : ℕ) → Gives Gave (spawn part threads prio)
-  spawn_connected threads prio =
-      gives_by (λ number. row_at part.processes number ≡ None) _ (spawn_number part.processes threads prio) _ (spawn_free part threads prio) (λ number free.
+  spawn_connected : (ceiling threads prio : ℕ) → Gives Gave (spawn ceiling part threads prio)
+  spawn_connected ceiling threads prio =
+      gives_by (λ number. row_at part.processes number ≡ None) _ (spawn_number ceiling part.processes threads prio) _ (spawn_free ceiling part threads prio) (λ number free.
       gives_done _ _ (quiet (record part { processes = put_row part.processes number (new_process threads prio) }) (spawned number threads prio free) [] (λ own. refl)))
 
   -- ---- a process ends
@@ -189,10 +189,10 @@ module _ (part : Part) (named : Client → ℕ) (well : StandsWell part) (h : Co
       gives_on _ (found (answer_in row.state) WrongState) _ (λ given answered.
       gives_done _ _ (quiet (with_process thread.proc.num (with_thread thread.tid ready_thread) part) (thread_connected thread.proc.num thread.tid ready_thread) [] (λ own. refl))))
 
-  prio_connected : (thread : Thread) (prio : ℕ) → Gives Gave (set_prio part thread prio)
-  prio_connected thread prio =
+  prio_connected : (ceiling : ℕ) (thread : Thread) (prio : ℕ) → Gives Gave (set_prio ceiling part thread prio)
+  prio_connected ceiling thread prio =
       gives_on _ (found (thread_at part thread.proc.num thread.tid) WrongState) _ (λ row is.
-      gives_on _ (need (is_prio prio) (Refused EINVAL)) _ (λ valid is_valid.
+      gives_on _ (may_give ceiling prio) _ (λ allowed is_allowed.
       gives_done _ _ (quiet (with_process thread.proc.num (with_thread thread.tid (ranked_thread prio)) part) (thread_connected thread.proc.num thread.tid (ranked_thread prio)) [] (λ own. refl))))
 
   asked_connected : (thread : Thread) (number : ℕ) (sent : Sent) → Connected (with_process thread.proc.num (with_thread thread.tid asked_thread) part) (λ own. named own + puts own (Put sent.target.manager (item.Unblock thread.proc.num thread.tid number) sent.target.prio.0 ∷ []))
@@ -224,13 +224,13 @@ module _ (part : Part) (named : Client → ℕ) (well : StandsWell part) (h : Co
   mounted_connected mount = record { pulses = h.pulses; has = record { opened = h.has.opened; uses = h.has.uses }; waiters = record { none_foreign = h.waiters.none_foreign } }
 
   given_connected : (config : Configuration) (user : ℕ) (held : List OwnItem) (e : Step) → Gives Gave (client_given config user held part e)
-  given_connected config user held (Spawn of_user threads prio) = spawn_connected threads prio.0
+  given_connected config user held (Spawn of_user threads prio) = spawn_connected (ceiling_of config user) threads prio.0
   given_connected config user held (Exit proc) =
       gives_on _ (found (living (row_at part.processes proc.num)) WrongState) _ (λ process is. gives_done _ _ (exit_connected proc.num process (living-there (row_at part.processes proc.num) process (found-row _ _ process is))))
   given_connected config user held (Call thread asked) = call_connected config user thread asked
   given_connected config user held (TakeReply thread) = reply_connected thread
   given_connected config user held (TakePulse proc) = gives_on _ (found (living (row_at part.processes proc.num)) WrongState) _ (λ process is. gives_done _ _ (pulse_connected proc.num (first_pulse proc.num part.resources.events)))
-  given_connected config user held (SetPrio thread prio) = prio_connected thread prio.0
+  given_connected config user held (SetPrio thread prio) = prio_connected (ceiling_of config user) thread prio.0
   given_connected config user held (Interrupt thread) = gives_on _ (found (thread_at part thread.proc.num thread.tid) WrongState) _ (λ row is. gives_done _ _ (interrupt_connected thread row.calls row (found-row _ _ row is) row.state refl))
   given_connected config user held (Mount thread path manager) =
       gives_on _ (mount_by config user part thread path manager) _ (λ mount is. gives_done _ _ (quiet (record part { resources = with_mount mount part.resources }) (mounted_connected mount) [] (λ own. refl)))

@@ -5,7 +5,7 @@ use Rattle.std.specs.List.{count_by}
 use Rattle.std.proofs.lemmas.Bool.{cases_Bool, cases_eq, cond_both, eqb-true, ne_eqb}
 use Rattle.std.proofs.lemmas.List.Folds.{sum_by-replicate}
 use Rattle.std.proofs.lemmas.Option.{same_Some}
-use Rattle.qx_types.specs.Configuration.{Configuration, name_bytes}
+use Rattle.qx_types.specs.Configuration.{Configuration, ceiling_of, name_bytes}
 use Rattle.qx_errno.specs.declared.Errno.{Errno}
 use Rattle.qx_errno.specs.declared.Errno.TheVariants.{EAGAIN, EINTR, EINVAL}
 use Rattle.qx_types.specs.declared.limits.TheConstants.Limits.{CALLS, INODES, PROCESSES, THREADS}
@@ -38,7 +38,7 @@ use Rattle.qx_machine.specs.declared.rows.State.TheVariants as state
 use Rattle.qx_machine.specs.declared.rows.ThreadRow.{ThreadRow}
 use Rattle.qx_machine.specs.declared.rows.WaitingCall.{WaitingCall}
 use Rattle.qx_machine.specs.Calls.{address, bytes_of, content_of, request_in_ranges, is_ready, may_call, target_at}
-use Rattle.qx_machine.specs.Clients.{ClientStep, abandoned, answer_in, call, client_given, interrupt_in, is_prio, mount_by, pulse_taken, set_prio, spawn, spawn_number, take_reply, target_by, without_process}
+use Rattle.qx_machine.specs.Clients.{ClientStep, abandoned, answer_in, call, client_given, interrupt_in, may_give, mount_by, pulse_taken, set_prio, spawn, spawn_number, take_reply, target_by, without_process}
 use Rattle.qx_machine.specs.Events.{first_pulse}
 use Rattle.qx_machine.specs.Functions.{Deed, Reply}
 use Rattle.qx_machine.specs.Inodes.{blocks_of_client}
@@ -394,10 +394,11 @@ pub living-there : (row : Option Process) (process : Process) → living row ≡
 living-there None process is = absurd (cc)
 living-there (Some there) process is = cond_both (has_ended there) None (Some there) (λ row. row ≡ Some process → Some there ≡ Some process) (λ ended none. absurd (cc)) (λ lives some. some) is
 
-pub spawn_free : (part : Part) (threads prio : ℕ) → Gives (λ number. row_at part.processes number ≡ None) (spawn_number part.processes threads prio)
-spawn_free part threads prio =
-    gives_on _ (need (nat_le 1 threads && nat_le threads THREADS && is_prio prio) (Refused EINVAL)) _ (λ valid is_valid.
-    gives_on _ (need (nat_le (lowest_from 1 part.processes) PROCESSES) (Refused EAGAIN)) _ (λ free is_free. gives_done _ _ (lowest_from_free 1 part.processes)))
+pub spawn_free : (ceiling : ℕ) (part : Part) (threads prio : ℕ) → Gives (λ number. row_at part.processes number ≡ None) (spawn_number ceiling part.processes threads prio)
+spawn_free ceiling part threads prio =
+    gives_on _ (need (nat_le 1 threads && nat_le threads THREADS) (Refused EINVAL)) _ (λ valid is_valid.
+    gives_on _ (may_give ceiling prio) _ (λ allowed is_allowed.
+    gives_on _ (need (nat_le (lowest_from 1 part.processes) PROCESSES) (Refused EAGAIN)) _ (λ free is_free. gives_done _ _ (lowest_from_free 1 part.processes))))
 
 module _ (part : Part) (h : WaitsOnce part) where
   abbrev Gave : ClientStep → Type 0
@@ -411,9 +412,9 @@ module _ (part : Part) (h : WaitsOnce part) where
   row_once : (number thread : ℕ) (change : ThreadRow → ThreadRow) (f : Process → Process) → ChangesThread thread change f → (row : ThreadRow) → thread_at part number thread ≡ Some row → count_state_waiting (change row).state ≡ count_state_waiting row.state → WaitsOnce (with_process number f part)
   row_once number thread change f changes row there same = thread_once number thread change f changes (λ other is. subst (λ (r : ThreadRow). count_state_waiting (change r).state ≡ count_state_waiting r.state) (same_Some _ _ (sym there ∙ is)) same)
 
-  spawn_once : (threads prio : ℕ) → Gives Gave (spawn part threads prio)
-  spawn_once threads prio =
-      gives_by (λ number. row_at part.processes number ≡ None) _ (spawn_number part.processes threads prio) _ (spawn_free part threads prio) (λ number free.
+  spawn_once : (ceiling threads prio : ℕ) → Gives Gave (spawn ceiling part threads prio)
+  spawn_once ceiling threads prio =
+      gives_by (λ number. row_at part.processes number ≡ None) _ (spawn_number ceiling part.processes threads prio) _ (spawn_free ceiling part threads prio) (λ number free.
       gives_done _ _ (same_once part (record part { processes = put_row part.processes number (new_process threads prio) }) h refl (after_spawn part number threads prio free) (spawn_ended part number threads prio free)))
 
   call_once : (config : Configuration) (user : ℕ) (thread : Thread) (asked : Request) → Gives Gave (call config user part thread asked)
@@ -428,10 +429,10 @@ module _ (part : Part) (h : WaitsOnce part) where
       gives_on _ (found (answer_in row.state) WrongState) _ (λ given answered.
       gives_done _ _ (row_once thread.proc.num thread.tid ready_thread (with_thread thread.tid ready_thread) (λ process. refl) row (found-row _ _ row is) (sym (answered_none row.state given (found-row _ _ given answered))))))
 
-  prio_once : (thread : Thread) (prio : ℕ) → Gives Gave (set_prio part thread prio)
-  prio_once thread prio =
+  prio_once : (ceiling : ℕ) (thread : Thread) (prio : ℕ) → Gives Gave (set_prio ceiling part thread prio)
+  prio_once ceiling thread prio =
       gives_on _ (found (thread_at part thread.proc.num thread.tid) WrongState) _ (λ row is.
-      gives_on _ (need (is_prio prio) (Refused EINVAL)) _ (λ valid is_valid.
+      gives_on _ (may_give ceiling prio) _ (λ allowed is_allowed.
       gives_done _ _ (thread_once thread.proc.num thread.tid (ranked_thread prio) (with_thread thread.tid (ranked_thread prio)) (λ process. refl) (λ other there. refl))))
 
   asked_once : (thread : Thread) → WaitsOnce (with_process thread.proc.num (with_thread thread.tid asked_thread) part)
@@ -496,13 +497,13 @@ module _ (part : Part) (h : WaitsOnce part) where
     }
 
   client_given-once : (config : Configuration) (user : ℕ) (held : List OwnItem) (e : Step) → Gives Gave (client_given config user held part e)
-  client_given-once config user held (Spawn of_user threads prio) = spawn_once threads prio.0
+  client_given-once config user held (Spawn of_user threads prio) = spawn_once (ceiling_of config user) threads prio.0
   client_given-once config user held (Call thread asked) = call_once config user thread asked
   client_given-once config user held (TakeReply thread) = reply_once thread
   client_given-once config user held (Exit proc) =
       gives_on _ (found (living (row_at part.processes proc.num)) WrongState) _ (λ process is. gives_done _ _ (exit_once proc.num process (living-there (row_at part.processes proc.num) process (found-row _ _ process is))))
   client_given-once config user held (TakePulse proc) = gives_on _ (found (living (row_at part.processes proc.num)) WrongState) _ (λ process is. gives_done _ _ (pulse_taken-once proc.num (first_pulse proc.num part.resources.events)))
-  client_given-once config user held (SetPrio thread prio) = prio_once thread prio.0
+  client_given-once config user held (SetPrio thread prio) = prio_once (ceiling_of config user) thread prio.0
   client_given-once config user held (Interrupt thread) = gives_on _ (found (thread_at part thread.proc.num thread.tid) WrongState) _ (λ row is. gives_done _ _ (interrupt_in-once thread row.calls row (found-row _ _ row is) row.state refl))
   client_given-once config user held (Mount thread path manager) =
       gives_on _ (mount_by config user part thread path manager) _ (λ mount is. gives_done _ _ (same_once part (record part { resources = with_mount mount part.resources }) h refl (λ p t. refl) (λ p. refl)))

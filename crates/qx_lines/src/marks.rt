@@ -1,5 +1,5 @@
 //! Which priorities have items: a bit for each priority, in words of 64 bits.
-ghost use Rattle.std.specs.Prelude.{◌≡◌, ◌≢◌, ℕ, ◌+◌, ◌*◌, ◌<◌, Bool, false, IfSome, IfNone, MatchOption};
+ghost use Rattle.std.specs.Prelude.{◌≡◌, ◌≢◌, ℕ, ◌+◌, ◌*◌, ◌<◌, false, IfSome, IfNone, MatchOption};
 ghost use Rattle.qx_lines.specs.Marks.{is_marked, words_down_to};
 ghost use Rattle.qx_lines.specs.inner.Marks.{IsHighest};
 

@@ -3,6 +3,7 @@ use Rattle.std.specs.Prelude.{ℕ, ⊤, List, [], ◌&&◌, ◌||◌, Bool, true
 use Rattle.qx_types.specs.Configuration.{Configuration, name_bytes}
 use Rattle.qx_errno.specs.declared.Errno.{Errno}
 use Rattle.qx_errno.specs.declared.Errno.TheVariants.{EAGAIN, EBADF, EINVAL, EMFILE}
+use Rattle.qx_types.specs.declared.fields.PulseValue.TheVariants.{Bits32, Bits64}
 use Rattle.qx_types.specs.declared.limits.TheConstants.Limits.{CALLS, FIRST_CONNECTION, LAST_CONNECTION, MESSAGE, SERVERS}
 use Rattle.qx_types.specs.declared.names.Manager.{Manager}
 use Rattle.qx_types.specs.declared.names.Prio.{Prio}
@@ -44,7 +45,8 @@ content_of (request.Seek coid whence by) rest = Spelled (msg.Lseek whence by)
 content_of (request.Fstat coid) rest = Spelled msg.Fstat
 content_of (request.List coid after) rest = Spelled (msg.List after)
 content_of (request.Chmod coid mode) rest = Spelled (msg.Chmod mode)
-content_of (request.Notify coid action conds code value) rest = Spelled (msg.Notify action conds code value)
+content_of (request.Notify coid action conds code value) rest = Spelled (msg.Notify action conds code (Bits32 value))
+content_of (request.Notify64 coid action conds code value) rest = Spelled (msg.Notify action conds code (Bits64 value))
 content_of (request.Raw coid bytes) rest = Raw bytes
 
 -- what is sent can be spelled, and is no longer than a message may be
@@ -84,6 +86,7 @@ address (request.Fstat coid) = Uses coid.0
 address (request.List coid after) = Uses coid.0
 address (request.Chmod coid mode) = Uses coid.0
 address (request.Notify coid action conds code value) = Uses coid.0
+address (request.Notify64 coid action conds code value) = Uses coid.0
 address (request.Raw coid bytes) = Uses coid.0
 
 -- how many server connections a process has at a manager, those whose disconnect pulse was made among them

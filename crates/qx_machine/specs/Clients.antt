@@ -1,8 +1,8 @@
 -- What a client's step does to the rows of its user.
 use Rattle.std.specs.Prelude.{ℕ, Bool, false, true, if◌then◌else◌, List, [], ◌∷◌, ◌++◌, ◌+◌, ◌&&◌, Option, Some, None, Result, Ok, Err, map, nat_le, option_map}
-use Rattle.qx_types.specs.Configuration.{Configuration, name_bytes}
-use Rattle.qx_errno.specs.declared.Errno.TheVariants.{EAGAIN, EINTR, EINVAL}
-use Rattle.qx_types.specs.declared.limits.TheConstants.Limits.{PRIORITY, PROCESSES, THREADS}
+use Rattle.qx_types.specs.Configuration.{Configuration, ceiling_of, name_bytes}
+use Rattle.qx_errno.specs.declared.Errno.TheVariants.{EAGAIN, EINTR, EINVAL, EPERM}
+use Rattle.qx_types.specs.declared.limits.TheConstants.Limits.{PROCESSES, THREADS}
 use Rattle.qx_types.specs.declared.names.Manager.{Manager}
 use Rattle.qx_types.specs.declared.names.Proc.{Proc}
 use Rattle.qx_types.specs.declared.names.Thread.{Thread}
@@ -41,20 +41,23 @@ use Rattle.qx_machine.specs.Waiting.{is_of_process}
 abbrev pub ClientStep : Type 0
 ClientStep = system.ClientStep Part
 
--- from 1 to the greatest
-abbrev pub is_prio : ℕ → Bool
-is_prio prio = nat_le 1 prio && nat_le prio PRIORITY
+-- a user with this ceiling gives a thread a priority: from 1 to the ceiling (C Library Reference: SchedSet; the ceiling is this profile)
+unfoldable pub may_give : ℕ → ℕ → Result Bool Outcome
+may_give ceiling prio = do
+  some ← need (nat_le 1 prio) (Refused EINVAL)
+  need (nat_le prio ceiling) (Refused EPERM)
 
--- the number of a new process
-abbrev pub spawn_number : List (Option Process) → ℕ → ℕ → Result ℕ Outcome
-spawn_number processes threads prio = do
-  valid ← need (nat_le 1 threads && nat_le threads THREADS && is_prio prio) (Refused EINVAL)
+-- the number of a new process of a user with this ceiling
+abbrev pub spawn_number : ℕ → List (Option Process) → ℕ → ℕ → Result ℕ Outcome
+spawn_number ceiling processes threads prio = do
+  valid ← need (nat_le 1 threads && nat_le threads THREADS) (Refused EINVAL)
+  allowed ← may_give ceiling prio
   free ← need (nat_le (lowest_from 1 processes) PROCESSES) (Refused EAGAIN)
   Ok (lowest_from 1 processes)
 
-abbrev pub spawn : Part → ℕ → ℕ → Result ClientStep Outcome
-spawn part threads prio = do
-  number ← spawn_number part.processes threads prio
+abbrev pub spawn : ℕ → Part → ℕ → ℕ → Result ClientStep Outcome
+spawn ceiling part threads prio = do
+  number ← spawn_number ceiling part.processes threads prio
   Ok (record { outcome = Spawned number; part = record part { processes = put_row part.processes number (new_process threads prio) }; changes = [] })
 
 -- where a call of a thread goes
@@ -148,10 +151,10 @@ exit part proc = do
 -- ---- what threads do
 
 -- a thread gets another priority
-abbrev pub set_prio : Part → Thread → ℕ → Result ClientStep Outcome
-set_prio part thread prio = do
+abbrev pub set_prio : ℕ → Part → Thread → ℕ → Result ClientStep Outcome
+set_prio ceiling part thread prio = do
   row ← found (thread_at part thread.proc.num thread.tid) WrongState
-  valid ← need (is_prio prio) (Refused EINVAL)
+  allowed ← may_give ceiling prio
   Ok (record { outcome = Done; part = with_thread_of thread (ranked_thread prio) part; changes = [] })
 
 -- an interrupt of a thread whose message stands in a line: the message goes, the thread is answered EINTR, and what its call attached
@@ -204,12 +207,12 @@ mount config user part thread path manager = do
 
 -- what a client's step gives, or the outcome of one that changes nothing
 abbrev pub client_given : Configuration → ℕ → List OwnItem → Part → Step → Result ClientStep Outcome
-client_given config user held part (Spawn of_user threads prio) = spawn part threads prio.0
+client_given config user held part (Spawn of_user threads prio) = spawn (ceiling_of config user) part threads prio.0
 client_given config user held part (Exit proc) = exit part proc
 client_given config user held part (Call thread request) = call config user part thread request
 client_given config user held part (TakeReply thread) = take_reply part thread
 client_given config user held part (TakePulse proc) = take_pulse part proc
-client_given config user held part (SetPrio thread prio) = set_prio part thread prio.0
+client_given config user held part (SetPrio thread prio) = set_prio (ceiling_of config user) part thread prio.0
 client_given config user held part (Interrupt thread) = interrupt part thread
 client_given config user held part (Mount thread path manager) = mount config user part thread path manager
 client_given config user held part _ = Err WrongState

@@ -7,6 +7,8 @@ use Rattle.qx_errno.specs.declared.Errno.{Errno}
 use Rattle.qx_errno.specs.declared.Errno.TheVariants.{EAGAIN}
 use Rattle.qx_types.specs.declared.fields.NotifyAction.{NotifyAction}
 use Rattle.qx_types.specs.declared.fields.NotifyAction.TheVariants.{Poll, PollArm, TranArm}
+use Rattle.qx_types.specs.declared.fields.PulseValue.{PulseValue}
+use Rattle.qx_types.specs.declared.fields.PulseValue.TheVariants.{Bits32, Bits64}
 use Rattle.qx_types.specs.declared.flags.Conds.{Conds}
 use Rattle.qx_types.specs.declared.flags.TheConstants.Conds as conds
 use Rattle.qx_types.specs.declared.limits.TheConstants.Limits.{EVENTS, PROCESSES}
@@ -96,11 +98,20 @@ notified PollArm event holding events = if is_any (wanted_of event.conditions ho
 
 -- ---- pulses (C Library Reference: iofunc_notify_trigger)
 
--- the pulse of an event where these conditions hold: two bits of its value tell of those that are wanted
+abbrev pub number_of : PulseValue → ℕ
+number_of (Bits32 n) = n
+number_of (Bits64 n) = n
+
+-- what tells of conditions beside a value, in two bits above it
+abbrev pub bits_beside : PulseValue → Conditions → ℕ
+bits_beside (Bits32 n) told = bit_of told.input pulse.INPUT + bit_of told.output pulse.OUTPUT
+bits_beside (Bits64 n) told = bit_of told.input pulse.INPUT_64 + bit_of told.output pulse.OUTPUT_64
+
+-- the pulse of an event where these conditions hold, which tells of those that are wanted
 abbrev pub pulse_of : Event → Conditions → Pulse
 pulse_of event holding = record {
   code = event.code;
-  value = bit_or event.value (bit_of (wanted_of event.conditions holding).input pulse.INPUT + bit_of (wanted_of event.conditions holding).output pulse.OUTPUT);
+  value = bit_or (number_of event.value) (bits_beside event.value (wanted_of event.conditions holding));
 }
 
 -- a wanted condition of an event's block has come to hold

@@ -14,7 +14,7 @@ use Rattle.qx_machine.specs.Runs.{Run}
 
 -- the user ann, and one worker
 abbrev pub one_user : Configuration
-one_user = record { users = (97 ∷ 110 ∷ 110 ∷ []) ∷ []; workers = 1 }
+one_user = record { users = (97 ∷ 110 ∷ 110 ∷ []) ∷ []; workers = 1; ceilings = 63 ∷ [] }
 
 -- the first thread of ann's first process
 abbrev pub ann : Thread

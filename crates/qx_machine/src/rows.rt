@@ -1,6 +1,8 @@
 use qx_isolation::ServerName;
 use qx_paths::Path;
-use qx_types::{Answer, Coid, Conds, Device, Errno, Manager, MessageBytes, OFlags, Prio};
+use qx_types::{
+    Answer, Coid, Conds, Device, Errno, Manager, MessageBytes, OFlags, Prio, PulseValue,
+};
 use qx_wire::{BorrowedBytes, Message};
 
 /// What a call sends (C Library Reference: `MsgSend`): a message of the table, or bytes as they are.
@@ -243,7 +245,7 @@ pub struct Sides {
 pub struct PulseWish {
     pub conditions: Conds,
     pub code: u8,
-    pub value: u32,
+    pub value: PulseValue,
 }
 
 /// Which conditions hold of what an open control block has open (C Library Reference: `ionotify`).
@@ -261,19 +263,23 @@ pub struct Event {
     pub block: u16,
     pub conditions: Conds,
     pub code: u8,
-    pub value: u32,
+    pub value: PulseValue,
 }
 
 /// A pulse (C Library Reference: `MsgReceivePulse`, `struct _pulse`).
 #[derive(Clone, Copy, Debug, PartialEq, Eq)]
 pub struct Pulse {
     pub code: u8,
-    pub value: u32,
+    pub value: u64,
 }
 
 impl Pulse {
-    /// The bit of a value, 28, that says that INPUT is wanted and holds.
-    pub const INPUT: u32 = 268_435_456;
-    /// The bit of a value, 29, that says that OUTPUT is wanted and holds.
-    pub const OUTPUT: u32 = 536_870_912;
+    /// The bit, 28, that says beside a value of 32 bits that INPUT is wanted and holds.
+    pub const INPUT: u64 = 268_435_456;
+    /// The bit, 29, that says so of OUTPUT.
+    pub const OUTPUT: u64 = 536_870_912;
+    /// The bit, 60, that says beside a value of 64 bits that INPUT is wanted and holds.
+    pub const INPUT_64: u64 = 1_152_921_504_606_846_976;
+    /// The bit, 61, that says so of OUTPUT.
+    pub const OUTPUT_64: u64 = 2_305_843_009_213_693_952;
 }

@@ -1,6 +1,6 @@
 //! The entries of one directory, in a list of a table that the caller lends.
 
-ghost use Rattle.std.specs.Prelude.{◌≡◌, ◌==◌, ◌⊎◌, ◌≢◌, ◌≤◌, ℕ, [], None, Some, IfOk, IfNone, IfSome, OnErr, OnOk, insert, length, map as mapped, slice_get};
+ghost use Rattle.std.specs.Prelude.{◌≡◌, ◌==◌, ◌≤◌, ℕ, [], None, Some, IfNone, IfSome, OnErr, OnOk, insert, length, map as mapped, slice_get};
 ghost use Rattle.std.specs.FinMap as map;
 ghost use Rattle.std.specs.FinMap.Entries.{find};
 ghost use Rattle.std.specs.Ordering.{nat_cmp};

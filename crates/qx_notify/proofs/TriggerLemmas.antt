@@ -6,6 +6,7 @@ use Rattle.std.proofs.lemmas.Bool.Decides.{nat_tests}
 use Rattle.std.proofs.lemmas.List.{append-nil, length-map, map-append, set-get_or, set-set}
 use Rattle.std.proofs.lemmas.Option.{slice_get_within}
 use Rattle.std.proofs.lemmas.List.Elements.{Contains-append_left, Contains-append_right}
+use Rattle.qx_types.specs.declared.fields.PulseValue.TheVariants.{Bits64}
 use Rattle.qx_types.specs.declared.limits.TheConstants.Limits.{PROCESSES}
 use Rattle.qx_lists.specs.Table.{Table, next_after, nodes_of, without}
 use Rattle.qx_lists.proofs.ListLemmas.{absent_without, contains_first, contains_later, none_first}
@@ -83,10 +84,10 @@ module _ (gives : Event → Bool) (after : ℕ → Conditions) (event : Event) (
   with-other is = rw is refl
 
 -- the pulse of an event, by what its node carries then
-pub pulse-told : (after : ℕ → Conditions) (own event : Event) (holding : Conditions) (value : ℕ) → own ≡ event → value ≡ (pulse_of event holding).value → holding ≡ after event.block → given (record event { value = value }) ≡ pulse_of own (after own.block)
+pub pulse-told : (after : ℕ → Conditions) (own event : Event) (holding : Conditions) (value : ℕ) → own ≡ event → value ≡ (pulse_of event holding).value → holding ≡ after event.block → given (record event { value = Bits64 value }) ≡ pulse_of own (after own.block)
 pulse-told after own event holding value same value_is holding_is =
     let all : value ≡ (pulse_of event (after event.block)).value = value_is ∙ ap (λ h. (pulse_of event h).value) holding_is in
-    let told_is : given (record event { value = value }) ≡ pulse_of event (after event.block) = λ i. record { code = event.code; value = all i } in
+    let told_is : given (record event { value = Bits64 value }) ≡ pulse_of event (after event.block) = λ i. record { code = event.code; value = all i } in
     rw same told_is
 
 -- the first of the rest, and those behind it

@@ -6,11 +6,11 @@ ghost use Rattle.qx_machine.specs.Events as machine;
 ghost use Rattle.qx_notify.specs.Events.{AreLimited, arms_event, armed_outcome, events_after, events_of, nothing_armed, status_given, notified_after, wants_node, with_events};
 
 use crate::changes::Changes;
-use crate::conditions::{come_to_hold, is_any, pulse_value, status_of, wanted_of};
+use crate::conditions::{come_to_hold, is_any, number_of, pulse_value, status_of, wanted_of};
 use crate::lists::{UserLists, append, armed_of, find, move_to, pulses_of, take_out};
 use qx_lists::Table;
 use qx_machine::{Conditions, Event, Pulse};
-use qx_types::{Errno, Limits, NotifyAction, Proc, User};
+use qx_types::{Errno, Limits, NotifyAction, Proc, PulseValue, User};
 use std::alloc::{AllocError, Global};
 use std::marker::Model;
 
@@ -180,7 +180,7 @@ impl AllEvents {
                     num: event.process,
                 };
                 let pulse = Event {
-                    value: pulse_value(&event, change.after),
+                    value: PulseValue::Bits64(pulse_value(&event, change.after)),
                     ..event
                 };
                 let queue = pulses_of(&self.lists, proc);
@@ -206,7 +206,7 @@ impl AllEvents {
         self.counts[proc.user.0 as usize] -= 1;
         Some(Pulse {
             code: event.code,
-            value: event.value,
+            value: number_of(event.value),
         })
     }
 

@@ -6,7 +6,7 @@ ghost use Rattle.qx_machine.specs.Events as machine;
 use crate::changes::Change;
 use bitflags::Flags;
 use qx_machine::{Conditions, Event, Pulse};
-use qx_types::Conds;
+use qx_types::{Conds, PulseValue};
 
 /// The wanted among some conditions.
 pub(crate) fn wanted_of(wanted: Conds, holding: Conditions) -> Conditions
@@ -45,11 +45,32 @@ pub(crate) fn status_of(conditions: Conditions) -> u64
 }
 
 /// The value of the pulse of an event where these conditions hold.
-pub(crate) fn pulse_value(event: &Event, holding: Conditions) -> u32
+pub(crate) fn pulse_value(event: &Event, holding: Conditions) -> u64
     ensures { result ≡ (machine.pulse_of event.now holding).value }
 {
-    let wanted = wanted_of(event.conditions, holding);
-    let input = if wanted.input { Pulse::INPUT } else { 0 };
-    let output = if wanted.output { Pulse::OUTPUT } else { 0 };
-    event.value | (input + output)
+    let told = wanted_of(event.conditions, holding);
+    number_of(event.value) | bits_beside(event.value, told)
+}
+
+/// The value as a number.
+pub(crate) fn number_of(value: PulseValue) -> u64
+    ensures { result ≡ machine.number_of value }
+{
+    match value {
+        PulseValue::Bits32(value) => u64::from(value),
+        PulseValue::Bits64(value) => value,
+    }
+}
+
+/// What tells of conditions beside a value.
+fn bits_beside(value: PulseValue, told: Conditions) -> u64
+    ensures { result ≡ machine.bits_beside value told }
+{
+    let (input, output) = match value {
+        PulseValue::Bits32(_) => (Pulse::INPUT, Pulse::OUTPUT),
+        PulseValue::Bits64(_) => (Pulse::INPUT_64, Pulse::OUTPUT_64),
+    };
+    let input = if told.input { input } else { 0 };
+    let output = if told.output { output } else { 0 };
+    input + output
 }

@@ -1,6 +1,6 @@
 //! What messages to a path do.
 
-ghost use Rattle.std.specs.Prelude.{◌≡◌, ◌<◌, ◌≤◌, [], IfOk, IsOk, Ok, OnErr, Some, length};
+ghost use Rattle.std.specs.Prelude.{◌≡◌, ◌<◌, [], IfOk, IsOk, Ok, OnErr, Some, length};
 ghost use Rattle.qx_iofunc.specs.Given as given;
 ghost use Rattle.qx_iofunc.specs.Lookups.{IsAllowed, open_found};
 ghost use Rattle.qx_machine.specs.Defaults as machine;

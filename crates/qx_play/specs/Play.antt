@@ -1,7 +1,6 @@
 -- What the lines of a script do: the steps that they take and the text that they print.
-use Rattle.std.specs.Prelude.{ℕ, zero, suc, ◌*◌, Bool, true, false, List, [], ◌∷◌, ◌++◌, Option, Some, None, find, length, if◌then◌else◌, is_some, nat_lt, sum_by}
+use Rattle.std.specs.Prelude.{ℕ, zero, suc, ◌*◌, Bool, true, false, List, [], ◌∷◌, ◌++◌, Some, None, length, if◌then◌else◌, is_some, sum_by}
 use Rattle.qx_types.specs.Configuration.{Configuration}
-use Rattle.qx_types.specs.Managers.{managers}
 use Rattle.qx_types.specs.declared.names.Manager.{Manager}
 use Rattle.qx_types.specs.declared.names.Thread.{Thread}
 use Rattle.qx_types.specs.declared.names.Worker.{Worker}
@@ -9,7 +8,7 @@ use Rattle.qx_types.specs.declared.outcome.Outcome.{Outcome}
 use Rattle.qx_types.specs.declared.outcome.Outcome.TheVariants.{Spawned, Refused, Done, Sent, Reply, Failed, Pulse, NoPulse, WrongState, Took, Idle, Busy, Handled, Nothing}
 use Rattle.qx_types.specs.declared.step.Step.{Step}
 use Rattle.qx_types.specs.declared.step.Step.TheVariants.{Call, TakeReply, Receive, Perform}
-use Rattle.qx_machine.specs.Machine.{World, line_of, step}
+use Rattle.qx_machine.specs.Machine.{World, step}
 use Rattle.qx_isolation.specs.Rows.{row_at}
 use Rattle.qx_machine.specs.Runs.{erase, run, received}
 use Rattle.qx_steps.specs.Reads.{is_thread_answered, next_manager, row_among_parts}

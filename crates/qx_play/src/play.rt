@@ -1,9 +1,7 @@
 //! What the lines of a script do: the steps that they take and the text that they print.
 
-ghost use Rattle.std.specs.Prelude.{◌≡◌, ◌≤◌, ◌<◌, ◌^◌, ◌++◌, ◌∷◌, [], ℕ, List, IfOk, OnOk, find, length, slice_get};
-ghost use Rattle.std.specs.Option.{option_to_list};
+ghost use Rattle.std.specs.Prelude.{◌≡◌, ◌≤◌, ◌<◌, ◌^◌, ◌++◌, ◌∷◌, [], ℕ, List, IfOk, OnOk, length};
 ghost use Rattle.qx_types.specs.Configuration.{Configuration};
-ghost use Rattle.qx_types.specs.Managers.{managers};
 ghost use Rattle.qx_types.specs.declared.names.TheConstants.Manager.{COUNT};
 ghost use Rattle.qx_types.specs.declared.step.Step.{Step};
 ghost use Rattle.qx_isolation.specs.Lines.{line_at};

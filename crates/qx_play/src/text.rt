@@ -163,11 +163,11 @@ fn push_reply(text: &mut Vec<u8>, status: u64, bytes: &[u8]) -> Result<(), NoMem
     push_bytes(text, bytes)
 }
 
-fn push_pulse(text: &mut Vec<u8>, code: u8, value: u32) -> Result<(), NoMemory>
+fn push_pulse(text: &mut Vec<u8>, code: u8, value: u64) -> Result<(), NoMemory>
     ensures ok { OnOk result (text.new.items ≡ text.old.items ++ (codes "pulse " ++ decimal code ++ codes " " ++ decimal value)) }
 {
     text.extend_from_slice(b"pulse ")?;
     push_number(text, code as u64)?;
     text.push(b' ')?;
-    push_number(text, value as u64)
+    push_number(text, value)
 }

@@ -25,6 +25,7 @@ use Rattle.qx_paths.specs.Prefixes.{MountPoint}
 use Rattle.qx_machine.specs.Calls.{Address, Opens, Connects, Uses, Duplicates, may_call, target_at}
 use Rattle.qx_machine.specs.Processes.{Process, ready_thread}
 use Rattle.qx_isolation.specs.Judgements.{◌>>=◌, found, need, or_refused}
+use Rattle.qx_machine.specs.Clients as clients
 use Rattle.qx_machine.specs.Clients.{ClientStep, answer_in, client_given, interrupt_in, or_unchanged, outcome_of, pulse_taken, target_by}
 use Rattle.qx_machine.specs.Machine.{After, World, client_step, or_same_world, own_held, server_given, server_step, step, step_of}
 use Rattle.qx_machine.specs.Parts.{Part, thread_at, thread_of, with_thread_of}
@@ -102,13 +103,17 @@ may_call_refuses row asked = search (refuses_on, needed, value_refuses)
 target_refuses : (config : Configuration) (user : ℕ) (mounts : List MountPoint) (processes : List (Option Process)) (thread : Thread) (request : Request) → Refuses may_end_call (target_by config user mounts processes thread request)
 target_refuses config user mounts processes thread request = search (refuses_on, looked_up, may_call_refuses, address_refuses)
 
+priority_refuses : (ceiling prio : ℕ) → Refuses plain (clients.may_give ceiling prio)
+unfolding clients.may_give
+priority_refuses ceiling prio = search (refuses_on, needed)
+
 client_gives : (config : Configuration) (user : ℕ) (held : List OwnItem) (part : Part) (e : Step) → Gives (may_give e) (client_given config user held part e)
-client_gives config user held part (Spawn of threads prio) = search (gives_on, refuses_on, done_gives, needed, value_refuses)
+client_gives config user held part (Spawn of threads prio) = search (gives_on, refuses_on, done_gives, needed, value_refuses, priority_refuses)
 client_gives config user held part (Exit proc) = search (gives_on, done_gives, looked_up)
 client_gives config user held part (Call thread request) = search (gives_on, done_gives, target_refuses)
 client_gives config user held part (TakeReply thread) = search (gives_on, done_gives, looked_up, answer_taken)
 client_gives config user held part (TakePulse proc) = search (gives_on, looked_up, pulse_gives)
-client_gives config user held part (SetPrio thread prio) = search (gives_on, done_gives, needed, looked_up)
+client_gives config user held part (SetPrio thread prio) = search (gives_on, done_gives, looked_up, priority_refuses)
 client_gives config user held part (Interrupt thread) = search (gives_on, looked_up, interrupt_gives)
 client_gives config user held part (Mount thread path manager) = search (gives_on, refuses_on, done_gives, needed, looked_up, judged)
 client_gives config user held part (Receive worker manager) = record { gives = λ _. refl }

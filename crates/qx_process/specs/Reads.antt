@@ -3,7 +3,7 @@ use Rattle.std.specs.Prelude.{ℕ, [], ◌≡◌, ◌≢◌, ◌<◌, ◌≤◌,
 use Rattle.std.specs.List.{flat_map, list_any}
 use Rattle.std.specs.Option.{option_to_list}
 use Rattle.qx_types.specs.Managers.{manager_number}
-use Rattle.qx_types.specs.declared.limits.TheConstants.Limits.{CALLS, LAST_CONNECTION, PRIORITY, SERVERS}
+use Rattle.qx_types.specs.declared.limits.TheConstants.Limits.{CALLS, LAST_CONNECTION, SERVERS}
 use Rattle.qx_types.specs.declared.outcome.Answer.{Answer}
 use Rattle.qx_machine.specs.declared.rows.Over.{Over}
 use Rattle.qx_machine.specs.declared.rows.Over.TheVariants.{New, Existing, Side}
@@ -78,7 +78,7 @@ CanCall (Some row) = row.calls < CALLS
 
 -- a priority of a thread
 abbrev pub IsPriority : ℕ → Type 0
-IsPriority prio = (1 ≤ prio) × (prio ≤ PRIORITY)
+IsPriority prio = 1 ≤ prio
 
 -- the message that a thread waits for has a priority of a thread
 abbrev pub WaitsRanked : State → Type 0

@@ -1,4 +1,4 @@
-ghost use Rattle.std.specs.Prelude.{◌≡◌, ◌<◌, ◌≤◌, IfSome, IsOk, IsSome, IsTrue, MatchOption, OnOk, OnErr, Some, option_map, vec_capacity};
+ghost use Rattle.std.specs.Prelude.{◌≡◌, ◌<◌, IfSome, IsOk, IsSome, IsTrue, MatchOption, OnOk, OnErr, Some, vec_capacity};
 ghost use Rattle.std.specs.Option.{option_copied};
 ghost use Rattle.qx_bytes.specs.Memory.{Leave};
 ghost use Rattle.qx_types.specs.declared.limits.TheConstants.Limits.{CALLS};

@@ -2,7 +2,7 @@
 use Rattle.std.specs.Prelude.{ℕ, ◌≡◌, Bool, false, List, [], Option, Some, None, Result, Ok, Err, nat_le, is_none}
 use Rattle.std.specs.List.{flat_map}
 use Rattle.std.specs.Option.{option_to_list}
-use Rattle.qx_errno.specs.declared.Errno.TheVariants.{EAGAIN, EINVAL, EMFILE}
+use Rattle.qx_errno.specs.declared.Errno.TheVariants.{EAGAIN, EMFILE}
 use Rattle.qx_types.specs.declared.limits.TheConstants.Limits.{FIRST_CONNECTION, LAST_CONNECTION}
 use Rattle.qx_types.specs.declared.names.Coid.{Coid}
 use Rattle.qx_types.specs.declared.names.Manager.{Manager}
@@ -11,7 +11,7 @@ use Rattle.qx_types.specs.declared.outcome.Outcome.TheVariants.{Spawned, Refused
 use Rattle.qx_isolation.specs.declared.rows.ServerName.{ServerName}
 use Rattle.qx_machine.specs.declared.rows.Target.{Target}
 use Rattle.qx_machine.specs.Calls.{can_serve}
-use Rattle.qx_machine.specs.Clients.{is_prio}
+use Rattle.qx_machine.specs.Clients.{may_give}
 use Rattle.qx_isolation.specs.Judgements.{◌>>=◌, found, need}
 use Rattle.qx_machine.specs.Processes.{Process, has_ended, new_process, ranked_thread, with_side, with_thread}
 use Rattle.qx_isolation.specs.Rows.{row_at, lowest_from, put_row, with_row}
@@ -42,12 +42,12 @@ abbrev pub after_or : List (Option Process) → Result (List (Option Process)) O
 after_or before (Ok after) = after
 after_or before (Err outcome) = before
 
--- a thread gets another priority
-abbrev pub with_prio : List (Option Process) → ℕ → ℕ → ℕ → Result (List (Option Process)) Outcome
-with_prio processes number thread prio = do
+-- a thread of a user with this ceiling gets another priority
+abbrev pub with_prio : ℕ → List (Option Process) → ℕ → ℕ → ℕ → Result (List (Option Process)) Outcome
+with_prio ceiling processes number thread prio = do
   process ← found (row_at processes number) WrongState
   row ← found (row_at process.threads thread) WrongState
-  valid ← need (is_prio prio) (Refused EINVAL)
+  allowed ← may_give ceiling prio
   Ok (with_row processes number (with_thread thread (ranked_thread prio)))
 
 -- the number of a new connection (C Library Reference: ConnectAttach, EMFILE and EAGAIN)

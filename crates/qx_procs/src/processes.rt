@@ -1,6 +1,6 @@
 //! The processes of a user, from 1: a place for each number.
 
-ghost use Rattle.std.specs.Prelude.{IsSome, ◌≡◌, ◌∷◌, ◌<◌, ◌≤◌, [], None, length, slice_set, IsErr, IsOk, IfOk, OnOk, OnErr, OnSome};
+ghost use Rattle.std.specs.Prelude.{IsSome, ◌≡◌, ◌∷◌, ◌<◌, ◌≤◌, [], Err, None, Ok, true, length, slice_set, IfErr, IsErr, IsOk, IfOk, OnOk, OnErr, OnSome};
 ghost use Rattle.std.specs.Option.{option_copied, option_copied_mut};
 ghost use Rattle.std.specs.Borrow.{sem};
 ghost use Rattle.std.specs.List.{list_any, sum_by};
@@ -120,15 +120,17 @@ impl Processes {
         self.process(process)?.conn_of(coid)
     }
 
-    /// The number of a new process of 1 to 4 threads of a priority from 1 to 63, the lowest free one. EINVAL for other
-    /// numbers, then EAGAIN where there are 16 processes.
-    pub fn spawn_number(&self, threads: u8, prio: Prio) -> Result<u8, Outcome>
-        ensures number { result ≡ clients.spawn_number self.now threads prio.0 }
+    /// The number of a new process of 1 to 4 threads of a priority from 1 to the user's ceiling, the lowest free one. EINVAL
+    /// for other numbers, EPERM for a priority above the ceiling, then EAGAIN where there are 16 processes.
+    pub fn spawn_number(&self, ceiling: Prio, threads: u8, prio: Prio) -> Result<u8, Outcome>
+        ensures number { result ≡ clients.spawn_number ceiling.0 self.now threads prio.0 }
+        ensures lowest { IsOk result → 1 ≤ prio.0 }
     {
-        let is_valid = 1 <= threads && threads <= Limits::THREADS && is_prio(prio);
+        let is_valid = 1 <= threads && threads <= Limits::THREADS;
         if !is_valid {
             return Err(Outcome::Refused(Errno::EINVAL));
         }
+        may_give(ceiling, prio)?;
         let number = places::lowest_free(self.rows.as_slice(), 1);
         if number > Limits::PROCESSES {
             return Err(Outcome::Refused(Errno::EAGAIN));
@@ -138,14 +140,14 @@ impl Processes {
 
     /// Starts a process of so many ready threads of a priority, under the number that `spawn_number` gives, and is refused
     /// as that is (C Library Reference: `spawn`). A spawn that is refused wants no memory.
-    pub fn spawn(&mut self, threads: u8, prio: Prio) -> Result<Outcome, AllocError>
-        ensures outcome { IfOk result (λ outcome. outcome ≡ spawn_outcome (clients.spawn_number self.old threads prio.0)) }
-        ensures rows { OnOk result (self.new ≡ spawned self.old threads prio.0 (clients.spawn_number self.old threads prio.0)) }
+    pub fn spawn(&mut self, ceiling: Prio, threads: u8, prio: Prio) -> Result<Outcome, AllocError>
+        ensures outcome { IfOk result (λ outcome. outcome ≡ spawn_outcome (clients.spawn_number ceiling.0 self.old threads prio.0)) }
+        ensures rows { OnOk result (self.new ≡ spawned self.old threads prio.0 (clients.spawn_number ceiling.0 self.old threads prio.0)) }
         ensures place { 0 < length self.old }
-        ensures sure { IsErr (clients.spawn_number self.old threads prio.0) → IsOk result }
+        ensures sure { IsErr (clients.spawn_number ceiling.0 self.old threads prio.0) → IsOk result }
         ensures err { OnErr result (self.new ≡ self.old) }
     {
-        match self.spawn_number(threads, prio) {
+        match self.spawn_number(ceiling, threads, prio) {
             Ok(number) => {
                 places::put(&mut self.rows, number as usize, Process::new(threads, prio))?;
                 Ok(Outcome::Spawned(number))
@@ -154,18 +156,18 @@ impl Processes {
         }
     }
 
-    /// A thread gets another priority, from 1 to 63 (C Library Reference: `SchedSet`). `WrongState` where it is not there,
-    /// then EINVAL for another number.
+    /// A thread gets another priority, from 1 to the user's ceiling (C Library Reference: `SchedSet`). `WrongState` where it is
+    /// not there, then EINVAL for 0, then EPERM for one above the ceiling.
     #[tactic(auto, using(crate::proofs::LendLemmas::put_thread_same))]
-    pub fn set_prio(&mut self, process: u8, thread: u8, prio: Prio) -> Outcome
-        ensures outcome { result ≡ done_or (with_prio self.old process thread prio.0) }
-        ensures rows { self.new ≡ after_or self.old (with_prio self.old process thread prio.0) }
+    pub fn set_prio(&mut self, ceiling: Prio, process: u8, thread: u8, prio: Prio) -> Outcome
+        ensures outcome { result ≡ done_or (with_prio ceiling.0 self.old process thread prio.0) }
+        ensures rows { self.new ≡ after_or self.old (with_prio ceiling.0 self.old process thread prio.0) }
     {
         let Some(cell) = self.thread_mut(process, thread) else {
             return Outcome::WrongState;
         };
-        if !is_prio(prio) {
-            return Outcome::Refused(Errno::EINVAL);
+        if let Err(outcome) = may_give(ceiling, prio) {
+            return outcome;
         }
         cell.set_prio(prio);
         Outcome::Done
@@ -299,9 +301,18 @@ fn is_ended(row: &Option<Process>) -> bool
     }
 }
 
-/// Whether it is a priority of a thread.
-fn is_prio(prio: Prio) -> bool
-    ensures priority { result ≡ clients.is_prio prio.0 }
+/// Whether a user with this ceiling gives a thread a priority: EINVAL for 0, then EPERM for one above the ceiling.
+#[tactic(auto, unfolding(qx_machine::specs::Clients::may_give))]
+fn may_give(ceiling: Prio, prio: Prio) -> Result<(), Outcome>
+    ensures given { IfOk result (λ _. clients.may_give ceiling.0 prio.0 ≡ Ok true) }
+    ensures lowest { IsOk result → 1 ≤ prio.0 }
+    ensures refused { IfErr result (λ outcome. clients.may_give ceiling.0 prio.0 ≡ Err outcome) }
 {
-    1 <= prio.0 && prio.0 <= Limits::PRIORITY
+    if prio.0 == 0 {
+        return Err(Outcome::Refused(Errno::EINVAL));
+    }
+    if prio.0 > ceiling.0 {
+        return Err(Outcome::Refused(Errno::EPERM));
+    }
+    Ok(())
 }

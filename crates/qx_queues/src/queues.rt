@@ -4,7 +4,7 @@
 ghost use Rattle.std.specs.Prelude.{◌≡◌, ℕ, ◌+◌, ◌-◌, ◌*◌, ◌<◌, ◌≤◌, false, option_map, length, drop, slice_get, is_some, max, IfOk, IsOk, OnOk, OnErr, IfSome, IsTrue, None, Some};
 ghost use Rattle.std.specs.FinMap as maps;
 ghost use Rattle.qx_types.specs.Managers.{manager_number};
-ghost use Rattle.qx_types.specs.declared.limits.TheConstants.Limits.{PRIORITY, PROCESSES, THREADS};
+ghost use Rattle.qx_types.specs.declared.limits.TheConstants.Limits.{PROCESSES, THREADS};
 ghost use Rattle.qx_lists.specs.Table.{ContainsNode, IsFree, IsIn, nodes_of, with_nodes, with_value, without};
 ghost use Rattle.qx_lines.specs.Line.{IsInLine, IsLineOf};
 ghost use Rattle.qx_isolation.specs.Lines.{into};
@@ -87,7 +87,6 @@ impl Queues {
         requires idle { (number : ℕ) → stands (queues_line self.old number) thread ≡ false }
         requires no_call { HasNoListedCall self.old thread }
         requires lowest { 1 ≤ prio.0 }
-        requires highest { prio.0 ≤ PRIORITY }
         ensures sent { self.new ≡ with_queues_line self.old (manager_number manager) (λ line. into machine.rank line (message_of thread prio.0)) }
     {
         let node = self.nodes.there(thread).message;
@@ -130,7 +129,6 @@ impl Queues {
         requires own { IsTrue (has_thread_nodes self.old thread) }
         requires idle { (number : ℕ) → unblock_call (queues_line self.old number) thread ≡ None }
         requires lowest { 1 ≤ prio.0 }
-        requires highest { prio.0 ≤ PRIORITY }
         ensures asked { self.new ≡ with_queues_line self.old (manager_number manager) (λ line. into machine.rank line (unblock_of thread call prio.0)) }
     {
         let Some(own) = self.nodes.at(thread) else {
@@ -234,7 +232,6 @@ impl Queues {
         requires process { thread.proc.num ≤ PROCESSES }
         requires thread { thread.tid ≤ THREADS }
         requires lowest { 1 ≤ prio.0 }
-        requires highest { prio.0 ≤ PRIORITY }
         requires room { 2 ≤ self.old.room }
         ensures added { self.new ≡ with_thread_nodes self.old thread }
     {
@@ -263,7 +260,6 @@ impl Queues {
         requires process { proc.num ≤ PROCESSES }
         requires threads { threads ≤ THREADS }
         requires lowest { 1 ≤ prio.0 }
-        requires highest { prio.0 ≤ PRIORITY }
         requires room { 2 * threads ≤ self.old.room }
         ensures added { self.new ≡ with_process_nodes self.old proc threads }
     {
@@ -402,7 +398,6 @@ fn new_node(table: &mut Table<Waiting>, waiting: Waiting) -> usize
 fn set_entry(table: &mut Table<Waiting>, node: usize, queued: Queued)
     requires there { ContainsNode table.old node }
     requires lowest { 1 ≤ queued.prio.0 }
-    requires highest { queued.prio.0 ≤ PRIORITY }
     ensures set { table.new ≡ with_value table.old node (idle queued) }
 {
     table.value_mut(node).stand_for(queued);
@@ -412,7 +407,6 @@ fn set_entry(table: &mut Table<Waiting>, node: usize, queued: Queued)
 fn set_prio(table: &mut Table<Waiting>, node: usize, prio: Prio)
     requires there { ContainsNode table.old node }
     requires lowest { 1 ≤ prio.0 }
-    requires highest { prio.0 ≤ PRIORITY }
     ensures set { table.new ≡ with_value table.old node (ranked prio (waiting_of_node table.old node)) }
 {
     table.value_mut(node).set_prio(prio);
@@ -424,7 +418,6 @@ fn put_in(table: &mut Table<Waiting>, line: &mut Line, node: usize, queued: Queu
     requires line { IsLineOf rank_of table.old line.old }
     requires free { IsFree table.old node }
     requires lowest { 1 ≤ queued.prio.0 }
-    requires highest { queued.prio.0 ≤ PRIORITY }
     ensures put { PutIn table.old table.new line.old line.new node (idle queued) }
 {
     set_entry(table, node, queued);
@@ -438,7 +431,6 @@ fn put_again(table: &mut Table<Waiting>, line: &mut Line, node: usize, prio: Pri
     requires line { IsLineOf rank_of table.old line.old }
     requires free { IsFree table.old node }
     requires lowest { 1 ≤ prio.0 }
-    requires highest { prio.0 ≤ PRIORITY }
     ensures put { PutIn table.old table.new line.old line.new node (ranked prio (waiting_of_node table.old node)) }
 {
     set_prio(table, node, prio);

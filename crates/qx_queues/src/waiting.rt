@@ -3,7 +3,7 @@
 ghost use Rattle.std.specs.Prelude.{◌≡◌, ◌+◌, ◌≤◌, ◌++◌, [], IfSome, false, is_some, length, true};
 ghost use Rattle.std.specs.Result.{ForOk};
 ghost use Rattle.qx_machine.specs.Processes.{keeps_room};
-ghost use Rattle.qx_types.specs.declared.limits.TheConstants.Limits.{BODY, PRIORITY, TRANSFER};
+ghost use Rattle.qx_types.specs.declared.limits.TheConstants.Limits.{BODY, TRANSFER};
 ghost use Rattle.qx_types.specs.declared.outcome.Answer.TheVariants.{Reply};
 ghost use Rattle.qx_queues.specs.Kept.{HasLoad};
 ghost use Rattle.qx_queues.specs.Queues.{answer_to};
@@ -157,7 +157,7 @@ impl Slot {
     }
 }
 
-/// An item as it stands in a line, with a priority from 1 to the greatest, and what its node carries; an answer there comes
+/// An item as it stands in a line, with a priority from 1, and what its node carries; an answer there comes
 /// with the room for its thread's replies, unless it takes that along.
 #[derive(Drop)]
 pub struct Waiting {
@@ -167,7 +167,6 @@ pub struct Waiting {
 
 impl Model for Waiting {
     ghost use Rattle.std.specs.Prelude.{◌≤◌};
-    ghost use Rattle.qx_types.specs.declared.limits.TheConstants.Limits.{PRIORITY};
     ghost use Rattle.qx_queues.specs.Waiting as words;
     ghost use Rattle.qx_queues.specs.inner.Waiting as inner_words;
 
@@ -175,14 +174,13 @@ impl Model for Waiting {
 
     ghost view = { λ w. record { queued = w.queued; load = inner_words.load_of w.slot } };
 
-    ghost invariant = { λ w. (1 ≤ w.queued.prio.0) × (w.queued.prio.0 ≤ PRIORITY) × inner_words.KeepsRoom w.slot };
+    ghost invariant = { λ w. (1 ≤ w.queued.prio.0) × inner_words.KeepsRoom w.slot };
 }
 
 impl Waiting {
     /// An item with its priority, whose node carries nothing.
     pub fn new(queued: Queued) -> Self
         requires lowest { 1 ≤ queued.prio.0 }
-        requires highest { queued.prio.0 ≤ PRIORITY }
         ensures entry { result ≡ idle queued }
     {
         Waiting {
@@ -194,7 +192,6 @@ impl Waiting {
     /// The node stands for another item from now on, and carries nothing.
     pub(crate) fn stand_for(&mut self, queued: Queued)
         requires lowest { 1 ≤ queued.prio.0 }
-        requires highest { queued.prio.0 ≤ PRIORITY }
         ensures entry { self.new ≡ idle queued }
     {
         self.queued = queued;
@@ -207,7 +204,6 @@ impl Waiting {
     /// The item has another priority from now on.
     pub(crate) fn set_prio(&mut self, prio: Prio)
         requires lowest { 1 ≤ prio.0 }
-        requires highest { prio.0 ≤ PRIORITY }
         ensures entry { self.new ≡ ranked prio self.old }
     {
         self.queued.prio = prio;

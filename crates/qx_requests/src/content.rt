@@ -8,7 +8,7 @@ ghost use Rattle.qx_wire.specs.Rests.{components_of};
 
 use qx_machine::Content;
 use qx_paths::Path;
-use qx_types::{Bytes, Limits, MessageBytes, NoMemory, Request};
+use qx_types::{Bytes, Limits, MessageBytes, NoMemory, PulseValue, Request};
 use qx_wire::ranges::{are_conditions, are_flags, is_name, is_offset};
 use qx_wire::{BorrowedBytes, Message, Rest, encode};
 use std::alloc::Global;
@@ -70,6 +70,16 @@ pub(crate) fn is_in_ranges(request: &Request) -> bool
         } => {
             are_conditions(*conds) && *code <= Limits::PULSE_CODE && *value <= Limits::PULSE_VALUE
         }
+        Request::Notify64 {
+            conds,
+            code,
+            value,
+            ..
+        } => {
+            are_conditions(*conds)
+                && *code <= Limits::PULSE_CODE
+                && *value <= Limits::PULSE_VALUE_64
+        }
         Request::Raw { bytes, .. } => bytes.as_slice().len() <= Limits::MESSAGE,
     }
 }
@@ -105,7 +115,19 @@ fn content_of<'a>(request: &'a Request, rest: Rest<'a>) -> Content<'a>
             action,
             conditions: conds,
             code,
+            value: PulseValue::Bits32(value),
+        },
+        Request::Notify64 {
+            action,
+            conds,
+            code,
             value,
+            ..
+        } => Message::Notify {
+            action,
+            conditions: conds,
+            code,
+            value: PulseValue::Bits64(value),
         },
         Request::Raw { ref bytes, .. } => return Content::Raw(BorrowedBytes::new(bytes.as_slice())),
     })

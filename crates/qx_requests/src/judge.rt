@@ -76,6 +76,7 @@ pub fn target_by<'a>(
         | Request::List { coid, .. }
         | Request::Chmod { coid, .. }
         | Request::Notify { coid, .. }
+        | Request::Notify64 { coid, .. }
         | Request::Raw { coid, .. } => {
             let connection = connection_at(process, *coid)?;
             Ok(to_connection(connection, Over::Existing(*coid), prio))

@@ -3,6 +3,7 @@ use Rattle.std.specs.Prelude.{ℕ, List, [], ◌∷◌, Option, Some, None, if�
 use Rattle.std.specs.Str.{bytes_eq}
 use Rattle.qx_types.specs.Optional.{◌>>=◌}
 use Rattle.qx_types.specs.declared.names.Thread.{Thread}
+use Rattle.qx_types.specs.declared.names.User.{User}
 use Rattle.qx_types.specs.declared.request.Request.{Request}
 use Rattle.qx_types.specs.declared.step.Step.{Step}
 use Rattle.qx_types.specs.declared.step.Step.TheVariants.{Spawn, Exit, Call, TakeReply, TakePulse, SetPrio, Interrupt, Mount, Receive, Perform}
@@ -13,10 +14,13 @@ use Rattle.qx_calls.specs.Forms.{◌then◌, end, Line, Saying, CanBeSaid, by, r
 use Rattle.qx_words.specs.Kinds.{AName, AUser, AProcess, AThread, AByte, AMoment, APath, AManager}
 use Rattle.qx_words.specs.Words.{moment_of}
 
--- who uses the system, and how many workers serve it
+-- who uses the system, what each user may ask for, and how many workers serve it
 
 abbrev pub user_line : Line (List ℕ)
 user_line = record { name = codes "user"; form = AName then end; made = λ name. name }
+
+abbrev pub ceiling_line : Line (User × ℕ)
+ceiling_line = record { name = codes "ceiling"; form = AUser then AByte then end; made = λ user prio. (user, prio) }
 
 abbrev pub workers_line : Line ℕ
 workers_line = record { name = codes "workers"; form = AByte then end; made = λ workers. workers }

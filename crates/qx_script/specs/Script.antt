@@ -1,28 +1,30 @@
--- A script: who uses the system, how many workers serve it, and what the lines ask for in order.
-use Rattle.std.specs.Prelude.{ℕ, ◌+◌, ◌==◌, ◌&&◌, Bool, true, not, List, [], ◌∷◌, ◌++◌, Option, Some, None, length, if◌then◌else◌, nat_le, nat_lt, is_none, option_map, unwrap_or}
+-- A script: who uses the system, what each user may ask for, how many workers serve it, and what the lines ask for in order.
+use Rattle.std.specs.Prelude.{ℕ, ◌+◌, ◌-◌, ◌==◌, ◌&&◌, Bool, true, not, List, [], ◌∷◌, ◌++◌, Option, Some, None, get_or, length, map, if◌then◌else◌, nat_le, nat_lt, is_none, option_map, slice_set, unwrap_or}
 use Rattle.std.specs.List.{list_any}
 use Rattle.std.specs.Str.{bytes_eq}
 use Rattle.qx_types.specs.Configuration.{Configuration}
 use Rattle.qx_types.specs.Optional.{◌>>=◌}
-use Rattle.qx_types.specs.declared.limits.TheConstants.Limits.{USERS, WORKERS}
+use Rattle.qx_types.specs.declared.names.User.{User}
+use Rattle.qx_types.specs.declared.limits.TheConstants.Limits.{CEILING, USERS, WORKERS}
 use Rattle.qx_script.specs.declared.command.Command.{Command}
 use Rattle.qx_script.specs.declared.script.Script as code
 use Rattle.qx_script.specs.declared.script.Script.TheVariants as variant
 use Rattle.qx_calls.specs.Forms.{read_form}
-use Rattle.qx_script.specs.Lines.{command_of, user_line, workers_line}
+use Rattle.qx_script.specs.Lines.{ceiling_line, command_of, user_line, workers_line}
 use Rattle.qx_words.specs.Words.{lines_of, words_of}
 
--- what the lines so far say
+-- what the lines so far say; a user may have no ceiling yet
 pub record Reading : Type 0 where
   pub users : List (List ℕ)
+  pub ceilings : List (Option ℕ)
   pub workers : Option ℕ
   pub commands : List Command
 
 -- nothing is read
 abbrev pub unread : Reading
-unread = record { users = []; workers = None; commands = [] }
+unread = record { users = []; ceilings = []; workers = None; commands = [] }
 
--- users and workers are named before the first command
+-- users, ceilings and workers are named before the first command
 abbrev pub is_before_commands : Reading → Bool
 is_before_commands reading = length reading.commands == 0
 
@@ -34,22 +36,35 @@ is_new_user reading name =
 abbrev pub with_user : Reading → List ℕ → Option Reading
 with_user reading name =
     if is_new_user reading name
-    then Some (record { users = reading.users ++ name ∷ []; workers = reading.workers; commands = reading.commands })
+    then Some (record reading { users = reading.users ++ name ∷ []; ceilings = reading.ceilings ++ None ∷ [] })
+    else None
+
+-- the user's place among the ceilings
+abbrev pub place_of : User → ℕ
+place_of user = user.0 - 1
+
+-- a ceiling from 1, for a user who has none yet
+abbrev pub with_ceiling : Reading → User × ℕ → Option Reading
+with_ceiling reading (user, prio) =
+    if is_before_commands reading && is_none (get_or reading.ceilings (place_of user) None) && nat_le 1 prio
+    then Some (record reading { ceilings = slice_set reading.ceilings (place_of user) (Some prio) })
     else None
 
 -- a number of workers that a configuration may have, named once
 abbrev pub with_workers : Reading → ℕ → Option Reading
 with_workers reading workers =
     if is_before_commands reading && is_none reading.workers && nat_le 1 workers && nat_le workers WORKERS
-    then Some (record { users = reading.users; workers = Some workers; commands = reading.commands })
+    then Some (record reading { workers = Some workers })
     else None
 
 abbrev pub with_command : Reading → Command → Reading
-with_command reading command =
-    record { users = reading.users; workers = reading.workers; commands = reading.commands ++ command ∷ [] }
+with_command reading command = record reading { commands = reading.commands ++ command ∷ [] }
 
 abbrev pub after_user : Reading → List (List ℕ) → Option Reading
 after_user reading words = read_form user_line reading.users words >>= with_user reading
+
+abbrev pub after_ceiling : Reading → List (List ℕ) → Option Reading
+after_ceiling reading words = read_form ceiling_line reading.users words >>= with_ceiling reading
 
 abbrev pub after_workers : Reading → List (List ℕ) → Option Reading
 after_workers reading words = read_form workers_line reading.users words >>= with_workers reading
@@ -59,6 +74,7 @@ unfoldable pub after_words : Reading → List (List ℕ) → Option Reading
 after_words reading [] = None
 after_words reading (name ∷ words) =
     if bytes_eq name user_line.name then after_user reading words
+    else if bytes_eq name ceiling_line.name then after_ceiling reading words
     else if bytes_eq name workers_line.name then after_workers reading words
     else option_map (with_command reading) (command_of reading.users name words)
 
@@ -81,9 +97,13 @@ abbrev pub said : code.Script → Script
 said (variant.Bad line) = Bad line
 said (variant.Good config commands) = Good config commands.items
 
+-- the ceiling that is set where no line names one
+abbrev pub ceiling_set : Option ℕ → ℕ
+ceiling_set named = unwrap_or named CEILING
+
 -- without a line that names the workers there is one
 abbrev pub script_of : Reading → Script
-script_of reading = Good (record { users = reading.users; workers = unwrap_or reading.workers 1 }) reading.commands
+script_of reading = Good (record { users = reading.users; workers = unwrap_or reading.workers 1; ceilings = map ceiling_set reading.ceilings }) reading.commands
 
 -- the lines from this number on
 abbrev pub script_from : Reading → ℕ → List (List ℕ) → Script

@@ -1,6 +1,6 @@
 //! Steps, each as the line of a script that takes it.
 
-ghost use Rattle.std.specs.Prelude.{◌≡◌, ◌++◌, OnOk, codes, decimal};
+ghost use Rattle.std.specs.Prelude.{◌≡◌, ◌++◌, OnOk};
 ghost use Rattle.qx_types.specs.Configuration.{Configuration};
 ghost use Rattle.qx_types.specs.declared.request.Request.{Request};
 ghost use Rattle.qx_types.specs.declared.step.Step.{Step};

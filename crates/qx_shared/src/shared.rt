@@ -3,7 +3,7 @@
 
 ghost use Rattle.std.specs.Prelude.{◌≡◌, ℕ, ◌+◌, ◌-◌, ◌*◌, ◌<◌, ◌≤◌, [], false, option_map, length, drop, slice_get, is_some, max, IfOk, IsOk, OnOk, OnErr, IfSome, IsTrue, None, Some, Ok};
 ghost use Rattle.qx_types.specs.Managers.{manager_number};
-ghost use Rattle.qx_types.specs.declared.limits.TheConstants.Limits.{PRIORITY, PROCESSES, THREADS};
+ghost use Rattle.qx_types.specs.declared.limits.TheConstants.Limits.{PROCESSES, THREADS};
 ghost use Rattle.qx_isolation.specs.Lines.{into};
 ghost use Rattle.qx_machine.specs.Machine as machine;
 ghost use Rattle.qx_machine.specs.Settling as settling;
@@ -69,7 +69,6 @@ impl Shared {
         requires idle { (number : ℕ) → stands (shared_line self.old number) thread ≡ false }
         requires no_call { HasNoCall self.old thread }
         requires lowest { 1 ≤ prio.0 }
-        requires highest { prio.0 ≤ PRIORITY }
         ensures sent { self.new ≡ with_shared_line self.old (manager_number manager) (λ line. into machine.rank line (message_of thread prio.0)) }
     {
         self.queues.send(manager, thread, prio);
@@ -91,7 +90,6 @@ impl Shared {
         requires own { IsTrue (has_thread self.old thread) }
         requires idle { (number : ℕ) → unblock_call (shared_line self.old number) thread ≡ None }
         requires lowest { 1 ≤ prio.0 }
-        requires highest { prio.0 ≤ PRIORITY }
         ensures asked { self.new ≡ with_shared_line self.old (manager_number manager) (λ line. into machine.rank line (unblock_of thread call prio.0)) }
     {
         self.queues.ask_unblock(manager, thread, call, prio);
@@ -165,7 +163,6 @@ impl Shared {
         requires process { proc.num ≤ PROCESSES }
         requires threads { threads ≤ THREADS }
         requires lowest { 1 ≤ prio.0 }
-        requires highest { prio.0 ≤ PRIORITY }
         requires room { 2 * threads ≤ self.old.room }
         ensures added { self.new ≡ with_shared_process self.old proc threads }
     {

@@ -4,7 +4,7 @@ use Rattle.std.specs.Prelude.{⊤, IfOk, IsErr, IsTrue, is_some}
 use Rattle.std.proofs.Math.Nat.{le-max_left, le_trans}
 use Rattle.std.proofs.lemmas.Bool.{cases_Bool}
 use Rattle.std.proofs.lemmas.Result.{IfOk-weaker}
-use Rattle.qx_types.specs.Configuration.{Configuration}
+use Rattle.qx_types.specs.Configuration.{Configuration, ceiling_of}
 use Rattle.qx_errno.specs.declared.Errno.TheVariants.{EINTR}
 use Rattle.qx_types.specs.declared.names.Prio.{Prio}
 use Rattle.qx_types.specs.declared.names.Thread.{Thread}
@@ -24,7 +24,7 @@ use Rattle.qx_machine.specs.declared.rows.Sent.{Sent as Message}
 use Rattle.qx_machine.specs.declared.rows.State.{State}
 use Rattle.qx_machine.specs.declared.rows.State.TheVariants as state
 use Rattle.qx_machine.specs.declared.rows.ThreadRow.{ThreadRow}
-use Rattle.qx_machine.specs.Clients.{answer_in, is_prio, outcome_of, spawn_number, target_by}
+use Rattle.qx_machine.specs.Clients.{answer_in, may_give, outcome_of, spawn_number, target_by}
 use Rattle.qx_machine.specs.Laws.{is_refusal}
 use Rattle.qx_machine.specs.Machine.{World, own_held, step}
 use Rattle.qx_machine.specs.Parts.{thread_of}
@@ -45,12 +45,12 @@ use Rattle.qx_steps.specs.Reads.{row_among_parts}
 use Rattle.qx_steps.specs.inner.Parts.{parts_of, told_all, told_world, world_of, AreResourcesOf, IsSound}
 use Rattle.qx_steps.specs.Steps.{target_in}
 use Rattle.qx_chan.proofs.CallLemmas.{queued_is}
-use Rattle.qx_chan.proofs.RowReads.{option_cases}
+use Rattle.qx_chan.proofs.RowReads.{option_cases, result_cases}
 use Rattle.qx_steps.proofs.LeftLemmas.{AreLeft, left-kept, left-put, left-thread, queued-keeps, starts}
 use Rattle.qx_steps.proofs.OwnerLemmas.{Owner, exits, nobody, others_kept, owner, sound-step}
 use Rattle.qx_steps.proofs.SettledLemmas.{settled-processes}
 use Rattle.qx_steps.proofs.StillLemmas.{still-asking, still-interrupting, still-ranking, still-send, still-spawn, still-taking, still-withdrawing, world-told}
-use Rattle.qx_steps.proofs.PartsLemmas.{result_cases, thread_row-told}
+use Rattle.qx_steps.proofs.PartsLemmas.{thread_row-told}
 
 -- what a thread is told that takes its answer, if it has one
 abbrev pub taken_outcome : Option Answer → Outcome
@@ -110,21 +110,27 @@ module _ (config : Configuration) (c : Channel) (ks : List (Option Kept)) (hands
 
   -- ---- spawn
 
-  pub spawn-step : (user : User) (threads : ℕ) (prio : Prio) → step w (Spawn user threads prio)
-      ≡ record { world = world_of config (after_spawn c user.0 threads prio.0) ks hands; outcome = spawn_outcome (spawn_number_in threads prio.0 (row_at c.users user.0)) }
+  under_ceiling : (user : User) (threads : ℕ) (prio : Prio) → let ceiling = ceiling_of config user.0 in step w (Spawn user threads prio)
+      ≡ record { world = world_of config (after_spawn ceiling c user.0 threads prio.0) ks hands; outcome = spawn_outcome (spawn_number_in ceiling threads prio.0 (row_at c.users user.0)) }
   unfolding step client
-  spawn-step user threads prio = elim (option_cases (row_at c.users user.0)) [
-    | inl none ↦ rw (none_there user.0 none, with_row-none c.users user.0 (λ processes. spawned processes threads prio.0 (spawn_number processes threads prio.0)) none, none) refl
-    | inr ps ↦
-        let o = the_owner user.0 ps.0 ps.1 in
-        elim (result_cases (spawn_number ps.0 threads prio.0)) [
-          | inl number ↦
-              let after = spawned ps.0 threads prio.0 (Ok number.0) in
-              let left = left-put (held user.0 ps.0 o) (r user.0 ps.0 o).pipes ps.0 number.0 (new_process threads prio.0) o.left (starts threads prio.0) in
-              rw (o.part, ps.1, number.1, ended_with user.0 ps.0 o after left, changed user.0 ps.0 o after) refl
-          | inr refused ↦ rw (o.part, ps.1, refused.1, ended_same user.0 ps.0 o, changed user.0 ps.0 o ps.0) refl
-        ]
-  ]
+  under_ceiling user threads prio =
+      let ceiling = ceiling_of config user.0 in
+      elim (option_cases (row_at c.users user.0)) [
+        | inl none ↦ rw (none_there user.0 none, with_row-none c.users user.0 (λ processes. spawned processes threads prio.0 (spawn_number ceiling processes threads prio.0)) none, none) refl
+        | inr ps ↦
+            let o = the_owner user.0 ps.0 ps.1 in
+            elim (result_cases (spawn_number ceiling ps.0 threads prio.0)) [
+              | inl number ↦
+                  let after = spawned ps.0 threads prio.0 (Ok number.0) in
+                  let left = left-put (held user.0 ps.0 o) (r user.0 ps.0 o).pipes ps.0 number.0 (new_process threads prio.0) o.left (starts threads prio.0) in
+                  rw (o.part, ps.1, number.1, ended_with user.0 ps.0 o after left, changed user.0 ps.0 o after) refl
+              | inr refused ↦ rw (o.part, ps.1, refused.1, ended_same user.0 ps.0 o, changed user.0 ps.0 o ps.0) refl
+            ]
+      ]
+
+  pub spawn-step : (ceiling : ℕ) (user : User) (threads : ℕ) (prio : Prio) → ceiling ≡ ceiling_of config user.0 → step w (Spawn user threads prio)
+      ≡ record { world = world_of config (after_spawn ceiling c user.0 threads prio.0) ks hands; outcome = spawn_outcome (spawn_number_in ceiling threads prio.0 (row_at c.users user.0)) }
+  spawn-step ceiling user threads prio is = rw is (under_ceiling user threads prio)
 
   -- ---- take_reply and set_prio
 
@@ -150,27 +156,33 @@ module _ (config : Configuration) (c : Channel) (ks : List (Option Kept)) (hands
       ≡ record { world = world_of config (after_taking c thread) ks hands; outcome = taken_outcome (answer_of (thread_row c.users thread)) }
   take_reply-step thread = by_channel (TakeReply thread) (after_taking c thread) (taken_outcome (answer_of (thread_row c.users thread))) (still-taking c ks sound.users thread).waits (reply_taken thread)
 
-  pub set_prio-step : (thread : Thread) (prio : Prio) → step w (SetPrio thread prio)
-      ≡ record { world = world_of config (after_ranking c thread prio.0) ks hands; outcome = prio_outcome_in thread.proc.num thread.tid prio.0 (row_at c.users thread.proc.user.0) }
+  ranked_under : (thread : Thread) (prio : Prio) → let ceiling = ceiling_of config thread.proc.user.0 in step w (SetPrio thread prio)
+      ≡ record { world = world_of config (after_ranking ceiling c thread prio.0) ks hands; outcome = prio_outcome_in ceiling thread.proc.num thread.tid prio.0 (row_at c.users thread.proc.user.0) }
   unfolding step client
-  set_prio-step thread prio = elim (option_cases (row_at c.users thread.proc.user.0)) [
-    | inl none ↦ rw (none_there thread.proc.user.0 none, with_row-none c.users thread.proc.user.0 (λ processes. after_or processes (with_prio processes thread.proc.num thread.tid prio.0)) none, none) refl
-    | inr ps ↦
-        let o = the_owner thread.proc.user.0 ps.0 ps.1 in
-        elim (option_cases (row_at ps.0 thread.proc.num)) [
-          | inl none ↦ rw (o.part, ps.1, none, ended_same thread.proc.user.0 ps.0 o, changed thread.proc.user.0 ps.0 o ps.0) refl
-          | inr x ↦ elim (option_cases (row_at x.0.threads thread.tid)) [
-            | inl none ↦ rw (o.part, ps.1, x.1, none, ended_same thread.proc.user.0 ps.0 o, changed thread.proc.user.0 ps.0 o ps.0) refl
-            | inr row ↦ elim (cases_Bool (is_prio prio.0)) [
-              | inl valid ↦
-                  let after = with_row ps.0 thread.proc.num (with_thread thread.tid (ranked_thread prio.0)) in
-                  let left = left-thread (held thread.proc.user.0 ps.0 o) (r thread.proc.user.0 ps.0 o).pipes ps.0 thread.proc.num thread.tid (ranked_thread prio.0) o.left in
-                  rw (o.part, ps.1, x.1, row.1, valid, rw (x.1, row.1) at (ended_with thread.proc.user.0 ps.0 o after left), rw (x.1, row.1) at (changed thread.proc.user.0 ps.0 o after)) refl
-              | inr wrong ↦ rw (o.part, ps.1, x.1, row.1, wrong, ended_same thread.proc.user.0 ps.0 o, changed thread.proc.user.0 ps.0 o ps.0) refl
+  ranked_under thread prio =
+      let ceiling = ceiling_of config thread.proc.user.0 in
+      elim (option_cases (row_at c.users thread.proc.user.0)) [
+        | inl none ↦ rw (none_there thread.proc.user.0 none, with_row-none c.users thread.proc.user.0 (λ processes. after_or processes (with_prio ceiling processes thread.proc.num thread.tid prio.0)) none, none) refl
+        | inr ps ↦
+            let o = the_owner thread.proc.user.0 ps.0 ps.1 in
+            elim (option_cases (row_at ps.0 thread.proc.num)) [
+              | inl none ↦ rw (o.part, ps.1, none, ended_same thread.proc.user.0 ps.0 o, changed thread.proc.user.0 ps.0 o ps.0) refl
+              | inr x ↦ elim (option_cases (row_at x.0.threads thread.tid)) [
+                | inl none ↦ rw (o.part, ps.1, x.1, none, ended_same thread.proc.user.0 ps.0 o, changed thread.proc.user.0 ps.0 o ps.0) refl
+                | inr row ↦ elim (result_cases (may_give ceiling prio.0)) [
+                  | inl allowed ↦
+                      let after = with_row ps.0 thread.proc.num (with_thread thread.tid (ranked_thread prio.0)) in
+                      let left = left-thread (held thread.proc.user.0 ps.0 o) (r thread.proc.user.0 ps.0 o).pipes ps.0 thread.proc.num thread.tid (ranked_thread prio.0) o.left in
+                      rw (o.part, ps.1, x.1, row.1, allowed.1, rw (x.1, row.1) at (ended_with thread.proc.user.0 ps.0 o after left), rw (x.1, row.1) at (changed thread.proc.user.0 ps.0 o after)) refl
+                  | inr refused ↦ rw (o.part, ps.1, x.1, row.1, refused.1, ended_same thread.proc.user.0 ps.0 o, changed thread.proc.user.0 ps.0 o ps.0) refl
+                ]
+              ]
             ]
-          ]
-        ]
-  ]
+      ]
+
+  pub set_prio-step : (ceiling : ℕ) (thread : Thread) (prio : Prio) → ceiling ≡ ceiling_of config thread.proc.user.0 → step w (SetPrio thread prio)
+      ≡ record { world = world_of config (after_ranking ceiling c thread prio.0) ks hands; outcome = prio_outcome_in ceiling thread.proc.num thread.tid prio.0 (row_at c.users thread.proc.user.0) }
+  set_prio-step ceiling thread prio is = rw is (ranked_under thread prio)
 
   -- ---- call
 
@@ -342,14 +354,14 @@ module _ (config : Configuration) (c : Channel) (ks : List (Option Kept)) (hands
   after_sound : (e : Step) (d : Channel) (outcome : Outcome) → ((user : ℕ) → exits e user ≡ false) → AreResourcesOf d ks → step w e ≡ record { world = world_of config d ks hands; outcome = outcome } → IsSound config d ks hands marks
   after_sound e d outcome stays users is = sound-step config c ks hands sound d ks hands e stays users (sym (ap (λ after. after.world) is))
 
-  pub spawn-sound : (user : User) (threads : ℕ) (prio : Prio) → IsSound config (after_spawn c user.0 threads prio.0) ks hands marks
-  spawn-sound user threads prio = after_sound _ _ _ (λ user. refl) (still-spawn c ks sound.users user.0 threads prio.0) (spawn-step user threads prio)
+  pub spawn-sound : (ceiling : ℕ) (user : User) (threads : ℕ) (prio : Prio) → ceiling ≡ ceiling_of config user.0 → IsSound config (after_spawn ceiling c user.0 threads prio.0) ks hands marks
+  spawn-sound ceiling user threads prio is = after_sound _ _ _ (λ user. refl) (still-spawn c ks sound.users ceiling user.0 threads prio.0) (spawn-step ceiling user threads prio is)
 
   pub take_reply-sound : (thread : Thread) → IsSound config (after_taking c thread) ks hands marks
   take_reply-sound thread = after_sound _ _ _ (λ user. refl) (still-taking c ks sound.users thread).of (take_reply-step thread)
 
-  pub set_prio-sound : (thread : Thread) (prio : Prio) → IsSound config (after_ranking c thread prio.0) ks hands marks
-  set_prio-sound thread prio = after_sound _ _ _ (λ user. refl) (still-ranking c ks sound.users thread prio.0) (set_prio-step thread prio)
+  pub set_prio-sound : (ceiling : ℕ) (thread : Thread) (prio : Prio) → ceiling ≡ ceiling_of config thread.proc.user.0 → IsSound config (after_ranking ceiling c thread prio.0) ks hands marks
+  set_prio-sound ceiling thread prio is = after_sound _ _ _ (λ user. refl) (still-ranking c ks sound.users ceiling thread prio.0) (set_prio-step ceiling thread prio is)
 
   still_called : (thread : Thread) (request : Request) (given : Result Addressed Outcome) → AreResourcesOf (after_call c thread request given) ks
   still_called thread request (Ok addressed) = still-send c ks sound.users thread (sent_to addressed request)

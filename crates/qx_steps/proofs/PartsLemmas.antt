@@ -1,5 +1,5 @@
 -- The rows of users, put together from two columns: one row, and a change in one column; and resources as the tables of all users tell them.
-use Rattle.std.proofs.Common.{◌≡◌, ◌⊎◌, inl, inr, ℕ, zero, suc, ◌+◌, get_or, List, [], ◌∷◌, true, false, Option, Some, None, Result, Ok, Err, length, is_some, map, replicate, refl, sym, ap, ap₂, ◌∙◌, arith}
+use Rattle.std.proofs.Common.{◌≡◌, ◌⊎◌, inl, inr, ℕ, zero, suc, ◌+◌, get_or, List, [], ◌∷◌, true, false, Option, Some, None, length, is_some, map, replicate, refl, sym, ap, ap₂, ◌∙◌, arith}
 use Rattle.std.specs.Prelude.{◌<◌, ◌≤◌, option_map, slice_set, unwrap_or}
 use Rattle.std.proofs.lemmas.List.{get_or-map, length-map}
 use Rattle.std.proofs.lemmas.Option.{slice_get-get_or}
@@ -27,10 +27,6 @@ use Rattle.qx_chan.specs.Users as users
 use Rattle.qx_chan.specs.Users.{no_processes}
 use Rattle.qx_steps.specs.inner.Parts.{part_of, parts_of, told_all, world_of, AreResourcesOf, SameUsers}
 use Rattle.qx_steps.specs.Reads.{process_among_parts, row_among_parts}
-
-pub result_cases : {A E : Type 0} (r : Result A E) → ((x : A) × (r ≡ Ok x)) ⊎ ((e : E) × (r ≡ Err e))
-result_cases (Ok x) = inl (x, refl)
-result_cases (Err e) = inr (e, refl)
 
 pub no_resources : (processes : Option (List (Option Process))) → part_of processes None ≡ None
 no_resources None = refl

@@ -47,15 +47,15 @@ module _ (c : Channel) (ks : List (Option Kept)) (of : AreResourcesOf c ks) wher
   one : (user : ℕ) (change : List (Option Process) → List (Option Process)) → SameUsers (with_row c.users user change) ks
   one user change = same-with_processes c.users ks user change of.same
 
-  pub still-spawn : (user threads prio : ℕ) → AreResourcesOf (after_spawn c user threads prio) ks
-  still-spawn user threads prio = of-users c (after_spawn c user threads prio) ks of (one user (λ processes. spawned processes threads prio (spawn_number processes threads prio))) refl
+  pub still-spawn : (ceiling user threads prio : ℕ) → AreResourcesOf (after_spawn ceiling c user threads prio) ks
+  still-spawn ceiling user threads prio = of-users c (after_spawn ceiling c user threads prio) ks of (one user (λ processes. spawned processes threads prio (spawn_number ceiling processes threads prio))) refl
 
   -- memory was refused once there was room for nodes
   pub still-room : (room : ℕ) → AreResourcesOf (record c { room = room }) ks
   still-room room = of-users c (record c { room = room }) ks of of.same refl
 
-  pub still-ranking : (thread : Thread) (prio : ℕ) → AreResourcesOf (after_ranking c thread prio) ks
-  still-ranking thread prio = of-users c (after_ranking c thread prio) ks of (one thread.proc.user.0 (λ processes. after_or processes (with_prio processes thread.proc.num thread.tid prio))) refl
+  pub still-ranking : (ceiling : ℕ) (thread : Thread) (prio : ℕ) → AreResourcesOf (after_ranking ceiling c thread prio) ks
+  still-ranking ceiling thread prio = of-users c (after_ranking ceiling c thread prio) ks of (one thread.proc.user.0 (λ processes. after_or processes (with_prio ceiling processes thread.proc.num thread.tid prio))) refl
 
   pub still-send : (thread : Thread) (sent : Sent) → AreResourcesOf (after_send c thread sent) ks
   still-send thread sent = of-users c (after_send c thread sent) ks of (one thread.proc.user.0 (λ processes. with_row processes thread.proc.num (with_queued thread.tid sent))) refl

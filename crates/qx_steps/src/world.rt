@@ -131,16 +131,17 @@ impl World {
         }
     }
 
-    /// Starts a process of 1 to 4 ready threads of a priority from 1 to 63 (System Architecture: processes and threads).
-    /// EINVAL for other numbers; EAGAIN where the user has 16 processes; `WrongState` for a user who is not configured. A
-    /// spawn that is refused wants no memory.
+    /// Starts a process of 1 to 4 ready threads of a priority from 1 to the user's ceiling (System Architecture: processes and
+    /// threads). `WrongState` for a user who is not configured; EINVAL for other numbers; EPERM for a priority above the
+    /// ceiling; EAGAIN where the user has 16 processes. A spawn that is refused wants no memory.
     pub fn spawn(&mut self, user: User, threads: u8, prio: Prio) -> Result<Outcome, AllocError>
         ensures outcome { IfOk result (λ outcome. outcome ≡ (machine.step self.old (Step.Spawn user threads prio)).outcome) }
         ensures world { OnOk result (self.new ≡ (machine.step self.old (Step.Spawn user threads prio)).world) }
         ensures sure { IsTrue (is_refusal (machine.step self.old (Step.Spawn user threads prio)).outcome) → IsOk result }
         ensures err { OnErr result (self.new ≡ self.old) }
     {
-        self.channel.spawn(user, threads, prio)
+        let ceiling = self.config.ceiling(user);
+        self.channel.spawn(ceiling, user, threads, prio)
     }
 
     /// A process ends (C Library Reference: `_exit`; System Architecture: a client that dies): its threads and connections go,
@@ -187,13 +188,15 @@ impl World {
         self.channel.take_pulse(proc)
     }
 
-    /// A thread gets another priority, from 1 to 63; a message that it sent keeps the one that it was sent with (C Library
-    /// Reference: `SchedSet`). `WrongState` where the thread is not there, then EINVAL for another number.
+    /// A thread gets another priority, from 1 to its user's ceiling; a message that it sent keeps the one that it was sent
+    /// with (C Library Reference: `SchedSet`). `WrongState` where the thread is not there, then EINVAL for 0, then EPERM for
+    /// one above the ceiling.
     pub fn set_prio(&mut self, thread: Thread, prio: Prio) -> Outcome
         ensures outcome { result ≡ (machine.step self.old (Step.SetPrio thread prio)).outcome }
         ensures world { self.new ≡ (machine.step self.old (Step.SetPrio thread prio)).world }
     {
-        self.channel.set_prio(thread, prio)
+        let ceiling = self.config.ceiling(thread.proc.user);
+        self.channel.set_prio(ceiling, thread, prio)
     }
 
     /// Asks to unblock a thread (System Architecture: the unblock pulse; C Library Reference: `MsgSend`, EINTR). A thread

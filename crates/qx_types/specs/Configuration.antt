@@ -1,12 +1,13 @@
 -- Who uses the system: names and numbers within the limits.
-use Rattle.std.specs.Prelude.{◌≢◌, ℕ, zero, suc, Option, None, slice_get, unwrap_or, ◌≤◌, Bool, false, ◌&&◌, ◌||◌, nat_le, IsTrue, List, [], ◌∷◌, length, All, AllPairs}
+use Rattle.std.specs.Prelude.{◌≡◌, ◌≢◌, ℕ, zero, suc, Option, None, get_or, slice_get, slice_set, unwrap_or, ◌-◌, ◌≤◌, Bool, false, ◌&&◌, ◌||◌, nat_le, IsTrue, List, [], ◌∷◌, length, All, AllPairs}
 use Rattle.std.specs.List.{list_all}
-use Rattle.qx_types.specs.declared.limits.TheConstants.Limits.{NAME, USERS, WORKERS}
+use Rattle.qx_types.specs.declared.limits.TheConstants.Limits.{CEILING, NAME, PRIORITY, USERS, WORKERS}
 
--- the users' names in the order of their numbers, and the number of workers
+-- the users' names in the order of their numbers, the number of workers, and the users' ceilings in the same order
 pub record Configuration : Type 0 where
   pub users : List (List ℕ)
   pub workers : ℕ
+  pub ceilings : List ℕ
 
 -- the name of the user with that number, from 1
 abbrev pub name_of : Configuration → ℕ → Option (List ℕ)
@@ -16,6 +17,15 @@ name_of c (suc n) = slice_get c.users n
 -- the same as bytes, of which a number that no user has has none
 abbrev pub name_bytes : Configuration → ℕ → List ℕ
 name_bytes c user = unwrap_or (name_of c user) []
+
+-- a user's ceiling, the greatest priority that the user may give a thread (this profile)
+abbrev pub ceiling_of : Configuration → ℕ → ℕ
+ceiling_of c zero = CEILING
+ceiling_of c (suc n) = get_or c.ceilings n CEILING
+
+-- another ceiling of a user
+abbrev pub with_ceiling : Configuration → ℕ → ℕ → Configuration
+with_ceiling c user prio = record c { ceilings = slice_set c.ceilings (user - 1) prio }
 
 -- a lower-case ASCII letter
 abbrev pub is_letter : ℕ → Bool
@@ -37,3 +47,8 @@ pub record IsConfiguration (names : List (List ℕ)) (workers : ℕ) : Type 0 wh
   pub different_names : AllPairs (λ one other. one ≢ other) names
   pub some_worker : 1 ≤ workers
   pub few_workers : workers ≤ WORKERS
+
+-- each user has a ceiling, from 1 to the greatest priority
+pub record HasCeilings (c : Configuration) : Type 0 where
+  pub each_user : length c.ceilings ≡ length c.users
+  pub in_range : All (λ ceiling. (1 ≤ ceiling) × (ceiling ≤ PRIORITY)) c.ceilings

@@ -19,3 +19,13 @@ pub enum NotifyAction {
     /// Sends a pulse at the next change (`_NOTIFY_ACTION_TRANARM`).
     TranArm,
 }
+
+/// The value of the pulse that a notification asks for (C Library Reference: `SIGEV_PULSE_INIT`, whose value has the bits of
+/// a pointer; that both widths exist, and that the pulse's own bits lie above the value's, is this profile).
+#[derive(Clone, Copy, Debug, PartialEq, Eq)]
+pub enum PulseValue {
+    /// Below 2^28; the bits 28 and 29 of the pulse tell which conditions hold.
+    Bits32(u32),
+    /// Below 2^60; the bits 60 and 61 of the pulse tell which conditions hold.
+    Bits64(u64),
+}

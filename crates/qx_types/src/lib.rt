@@ -3,11 +3,11 @@
 //! - `names.rt`: users, processes, threads, connections, priorities, managers with their numbers, workers, actors,
 //!   items
 //! - `request.rt`, `step.rt`, `outcome.rt`: requests; steps, and who takes one; answers and outcomes
-//! - `no_memory.rt`: that a growth was refused
+//! - `no_memory.rt`, `out_of_range.rt`: that a growth was refused; that a setting was
 //! - `limits.rt`: every limit, under the name by which definitions and code cite it
 //! - `config.rt`: a configuration, accepted or not
 //! - `flags.rt`: the flags of an open; the conditions of a notification
-//! - `fields.rt`: where a seek counts from; what a notification is to do
+//! - `fields.rt`: where a seek counts from; what a notification is to do, and the value of its pulse
 //! - `nodes.rt`: what a value has to tell to stand in a line, or to wait in a pipe
 //!
 //! `Bytes` and `MessageBytes` are those of `qx_bytes`, and `Errno` is that of `qx_errno`, handed on.
@@ -20,17 +20,19 @@ pub mod limits;
 pub mod names;
 pub mod no_memory;
 pub mod nodes;
+pub mod out_of_range;
 pub mod outcome;
 pub mod request;
 pub mod step;
 
 pub use config::Config;
-pub use fields::{NotifyAction, Whence};
+pub use fields::{NotifyAction, PulseValue, Whence};
 pub use flags::{Conds, OFlags};
 pub use limits::Limits;
 pub use names::{Actor, Coid, Item, Manager, Prio, Proc, Thread, User, Worker};
 pub use no_memory::NoMemory;
 pub use nodes::{Ranked, Waiter};
+pub use out_of_range::OutOfRange;
 pub use outcome::{Answer, Outcome};
 pub use qx_bytes::{Bytes, MessageBytes};
 pub use qx_devices::Device;

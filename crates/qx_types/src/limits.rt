@@ -25,7 +25,9 @@ impl Limits {
     /// Open blocks of a user.
     pub const BLOCKS: usize = 256;
     /// The greatest priority.
-    pub const PRIORITY: u8 = 63;
+    pub const PRIORITY: u8 = 255;
+    /// A user's ceiling, the greatest priority that the user may give a thread, where none is set.
+    pub const CEILING: u8 = 63;
     /// The greatest mode, 0777.
     pub const MODE: u16 = 511;
     /// Bytes of a path.
@@ -48,8 +50,10 @@ impl Limits {
     pub const MESSAGE: usize = 4168;
     /// The greatest code of a pulse.
     pub const PULSE_CODE: u8 = 127;
-    /// The greatest value of a pulse, below 2^28.
+    /// The greatest value that a NOTIFY asks for, below 2^28.
     pub const PULSE_VALUE: u32 = 268_435_455;
+    /// The greatest value that a NOTIFY64 asks for, below 2^60.
+    pub const PULSE_VALUE_64: u64 = 1_152_921_504_606_846_975;
     /// Armed events and untaken pulses of a user, together.
     pub const EVENTS: usize = 128;
     /// Calls of a thread.

@@ -28,8 +28,8 @@ pub struct Thread {
 #[derive(Clone, Copy, Debug, PartialEq, Eq)]
 pub struct Coid(pub u8);
 
-/// A priority. The system gives 1 (lowest) to 63 (highest) to threads and messages; other numbers are refused where a
-/// step names them.
+/// A priority, from 1 (lowest) to 255 (highest). A user may give threads those up to the user's ceiling (`Config`); other
+/// numbers are refused where a step names them. Disconnect pulses have the highest.
 #[derive(Clone, Copy, Debug, PartialEq, Eq)]
 pub struct Prio(pub u8);
 

@@ -10,11 +10,10 @@ pub trait Ranked {
     /// The value's priority.
     ghost rank: { Self → ℕ };
 
-    /// The priority, from 1 to 63.
+    /// The priority, from 1.
     fn prio(&self) -> Prio
         ensures rank { result.0 ≡ rank self.now }
-        ensures lowest { 1 ≤ result.0 }
-        ensures highest { result.0 ≤ 63 };
+        ensures lowest { 1 ≤ result.0 };
 }
 
 /// A message that waits in a pipe.

@@ -28,7 +28,7 @@ pub enum Outcome {
     /// The server's error.
     Failed(Errno),
     /// The code and the value of a pulse.
-    Pulse(u8, u32),
+    Pulse(u8, u64),
     NoPulse,
     /// No such user, process, thread or worker, or not in the state that the step needs. Nothing changed.
     WrongState,

@@ -78,6 +78,14 @@ pub enum Request {
         code: u8,
         value: u32,
     },
+    /// The same for a pulse with a value below 2^60 (C Library Reference: `ionotify`, `struct sigevent`).
+    Notify64 {
+        coid: Coid,
+        action: NotifyAction,
+        conds: Conds,
+        code: u8,
+        value: u64,
+    },
     /// Sends at most 4,168 bytes as they are (C Library Reference: `MsgSend`).
     Raw {
         coid: Coid,
@@ -137,6 +145,19 @@ impl Clone for Request {
                 code,
                 value,
             } => Request::Notify {
+                coid: *coid,
+                action: *action,
+                conds: *conds,
+                code: *code,
+                value: *value,
+            },
+            Request::Notify64 {
+                coid,
+                action,
+                conds,
+                code,
+                value,
+            } => Request::Notify64 {
                 coid: *coid,
                 action: *action,
                 conds: *conds,

@@ -16,9 +16,10 @@ use Rattle.qx_wire.specs.declared.message.Message.{Message}
 use Rattle.qx_wire.specs.declared.message.Message.TheVariants as msg
 use Rattle.qx_types.specs.declared.fields.Whence.{Whence}
 use Rattle.qx_types.specs.declared.fields.NotifyAction.{NotifyAction}
+use Rattle.qx_types.specs.declared.fields.PulseValue.TheVariants.{Bits32, Bits64}
 use Rattle.qx_wire.specs.Rests.{joined, components_of, is_component, is_rest}
 use Rattle.qx_wire.specs.Table.{row, body, in_ranges, is_i64, whence_number, action_number}
-use Rattle.qx_wire.specs.Reading.{ended, open_at, mknod_at, read_at, dup_at, lseek_at, chmod_at, notify_at}
+use Rattle.qx_wire.specs.Reading.{ended, open_at, mknod_at, read_at, dup_at, lseek_at, chmod_at, notify_at, notify_64_at}
 use Rattle.qx_wire.proofs.RestLemmas.{joined_components, components_joined}
 use Rattle.qx_wire.proofs.FieldLemmas.{IsBytes, some_else_none, and_true, wide8, wide16, wide32, wide64, peel, put_back, number_again, ended_some}
 
@@ -184,13 +185,32 @@ notify_takes act bytes fits m e =
     let c = peel w8 (2 ^ 8) wide8 bytes _ m fits e in
     let d = peel w8 (2 ^ 8) wide8 c.rest _ m c.fits c.goes_on in
     let v = peel w32 (2 ^ 32) wide32 d.rest _ m d.fits d.goes_on in
-    let end = ended_some v.rest (msg.Notify act (record { 0 = c.n }) d.n v.n) m v.goes_on in
+    let end = ended_some v.rest (msg.Notify act (record { 0 = c.n }) d.n (Bits32 v.n)) m v.goes_on in
     subst (λ (m : Message). Has 265 (action_number act) bytes m) end.1 (record { type = refl; subtype = refl; body = put_back c _ (put_back d _ (put_back v [] (sym end.0))) })
 
-pub notify_again : (act : NotifyAction) (c : Conds) (code value : ℕ) → in_ranges (msg.Notify act c code value) ≡ true → notify_at act (body (row (msg.Notify act c code value)).fields) ≡ Some (msg.Notify act c code value)
+pub notify_again : (act : NotifyAction) (c : Conds) (code value : ℕ) → in_ranges (msg.Notify act c code (Bits32 value)) ≡ true → notify_at act (body (row (msg.Notify act c code (Bits32 value))).fields) ≡ Some (msg.Notify act c code (Bits32 value))
 unfolding notify_at
 notify_again act c code value e =
     let c_fits : c.0 < 2 ^ 8 = grind (arith, nat_tests) in
     let code_fits : code < 2 ^ 8 = grind (arith, nat_tests) in
     let value_fits : value < 2 ^ 32 = grind (arith, nat_tests) in
     rw (wide8.again c.0 c_fits, wide8.again code code_fits, wide32.again value value_fits) refl
+
+-- ---- NOTIFY64
+
+pub notify_64_takes : (act : NotifyAction) (bytes : List ℕ) → IsBytes bytes → Takes 266 (action_number act) bytes (notify_64_at act bytes)
+unfolding notify_64_at
+notify_64_takes act bytes fits m e =
+    let c = peel w8 (2 ^ 8) wide8 bytes _ m fits e in
+    let d = peel w8 (2 ^ 8) wide8 c.rest _ m c.fits c.goes_on in
+    let v = peel w64 (2 ^ 64) wide64 d.rest _ m d.fits d.goes_on in
+    let end = ended_some v.rest (msg.Notify act (record { 0 = c.n }) d.n (Bits64 v.n)) m v.goes_on in
+    subst (λ (m : Message). Has 266 (action_number act) bytes m) end.1 (record { type = refl; subtype = refl; body = put_back c _ (put_back d _ (put_back v [] (sym end.0))) })
+
+pub notify_64_again : (act : NotifyAction) (c : Conds) (code value : ℕ) → in_ranges (msg.Notify act c code (Bits64 value)) ≡ true → notify_64_at act (body (row (msg.Notify act c code (Bits64 value))).fields) ≡ Some (msg.Notify act c code (Bits64 value))
+unfolding notify_64_at
+notify_64_again act c code value e =
+    let c_fits : c.0 < 2 ^ 8 = grind (arith, nat_tests) in
+    let code_fits : code < 2 ^ 8 = grind (arith, nat_tests) in
+    let value_fits : value < 2 ^ 64 = grind (arith, nat_tests) in
+    rw (wide8.again c.0 c_fits, wide8.again code code_fits, wide64.again value value_fits) refl

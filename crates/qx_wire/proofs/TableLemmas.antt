@@ -14,12 +14,13 @@ use Rattle.qx_wire.specs.declared.message.Meaning.{Meaning}
 use Rattle.qx_wire.specs.declared.message.Meaning.TheVariants.{Known, Unknown, Malformed}
 use Rattle.qx_types.specs.declared.fields.Whence.TheVariants as whence
 use Rattle.qx_types.specs.declared.fields.NotifyAction.TheVariants as action
+use Rattle.qx_types.specs.declared.fields.PulseValue.TheVariants.{Bits32, Bits64}
 use Rattle.qx_wire.specs.Rests.{joined, components_of, is_component, is_rest}
 use Rattle.qx_wire.specs.Table.{row, body, in_ranges, framed, spelling, Spells, IsOfNoKind}
 use Rattle.qx_wire.specs.Laws.{IfKnown}
-use Rattle.qx_wire.specs.Reading.{ended, open_at, mknod_at, read_at, dup_at, lseek_at, chmod_at, notify_at, known_or_malformed, Case, cases, meaning_found, body_cut, Frame, frame_at, frame_cut, cut, judged, judged_where, meaning}
+use Rattle.qx_wire.specs.Reading.{ended, open_at, mknod_at, read_at, dup_at, lseek_at, chmod_at, notify_at, notify_64_at, known_or_malformed, Case, cases, meaning_found, body_cut, Frame, frame_at, frame_cut, cut, judged, judged_where, meaning}
 use Rattle.qx_wire.proofs.FieldLemmas.{IsBytes, some_else_none, and_true, wide16, wide32, peel, put_back, number_again}
-use Rattle.qx_wire.proofs.ReadLemmas.{Has, Takes, open_takes, open_again, stat_takes, unlink_takes, rest_again, mknod_takes, mknod_again, read_takes, read_again, write_takes, list_takes, close_takes, fstat_takes, dup_takes, dup_again, lseek_takes, lseek_again, chmod_takes, chmod_again, notify_takes, notify_again}
+use Rattle.qx_wire.proofs.ReadLemmas.{Has, Takes, open_takes, open_again, stat_takes, unlink_takes, rest_again, mknod_takes, mknod_again, read_takes, read_again, write_takes, list_takes, close_takes, fstat_takes, dup_takes, dup_again, lseek_takes, lseek_again, chmod_takes, chmod_again, notify_takes, notify_again, notify_64_takes, notify_64_again}
 
 -- ---- cases
 
@@ -52,9 +53,12 @@ are_cases bytes fits =
     record { takes = fstat_takes bytes; kind = (msg.Fstat, refl, refl) } ⊗
     record { takes = list_takes bytes; kind = (msg.List [], refl, refl) } ⊗
     record { takes = chmod_takes bytes fits; kind = (msg.Chmod 0, refl, refl) } ⊗
-    record { takes = notify_takes action.Poll bytes fits; kind = (msg.Notify action.Poll (record { 0 = 0 }) 0 0, refl, refl) } ⊗
-    record { takes = notify_takes action.PollArm bytes fits; kind = (msg.Notify action.PollArm (record { 0 = 0 }) 0 0, refl, refl) } ⊗
-    record { takes = notify_takes action.TranArm bytes fits; kind = (msg.Notify action.TranArm (record { 0 = 0 }) 0 0, refl, refl) } ⊗
+    record { takes = notify_takes action.Poll bytes fits; kind = (msg.Notify action.Poll (record { 0 = 0 }) 0 (Bits32 0), refl, refl) } ⊗
+    record { takes = notify_takes action.PollArm bytes fits; kind = (msg.Notify action.PollArm (record { 0 = 0 }) 0 (Bits32 0), refl, refl) } ⊗
+    record { takes = notify_takes action.TranArm bytes fits; kind = (msg.Notify action.TranArm (record { 0 = 0 }) 0 (Bits32 0), refl, refl) } ⊗
+    record { takes = notify_64_takes action.Poll bytes fits; kind = (msg.Notify action.Poll (record { 0 = 0 }) 0 (Bits64 0), refl, refl) } ⊗
+    record { takes = notify_64_takes action.PollArm bytes fits; kind = (msg.Notify action.PollArm (record { 0 = 0 }) 0 (Bits64 0), refl, refl) } ⊗
+    record { takes = notify_64_takes action.TranArm bytes fits; kind = (msg.Notify action.TranArm (record { 0 = 0 }) 0 (Bits64 0), refl, refl) } ⊗
     none
 
 known_one : (m n : Message) → Known m ≡ Known n → m ≡ n
@@ -112,9 +116,12 @@ has_case (msg.Lseek whence.End by) bytes e = cut_not_unknown (lseek_at whence.En
 has_case msg.Fstat bytes e = cut_not_unknown (ended bytes msg.Fstat) e
 has_case (msg.List after) bytes e = cut_not_unknown (Some (msg.List bytes)) e
 has_case (msg.Chmod mode) bytes e = cut_not_unknown (chmod_at bytes) e
-has_case (msg.Notify action.Poll c code value) bytes e = cut_not_unknown (notify_at action.Poll bytes) e
-has_case (msg.Notify action.PollArm c code value) bytes e = cut_not_unknown (notify_at action.PollArm bytes) e
-has_case (msg.Notify action.TranArm c code value) bytes e = cut_not_unknown (notify_at action.TranArm bytes) e
+has_case (msg.Notify action.Poll c code (Bits32 value)) bytes e = cut_not_unknown (notify_at action.Poll bytes) e
+has_case (msg.Notify action.Poll c code (Bits64 value)) bytes e = cut_not_unknown (notify_64_at action.Poll bytes) e
+has_case (msg.Notify action.PollArm c code (Bits32 value)) bytes e = cut_not_unknown (notify_at action.PollArm bytes) e
+has_case (msg.Notify action.PollArm c code (Bits64 value)) bytes e = cut_not_unknown (notify_64_at action.PollArm bytes) e
+has_case (msg.Notify action.TranArm c code (Bits32 value)) bytes e = cut_not_unknown (notify_at action.TranArm bytes) e
+has_case (msg.Notify action.TranArm c code (Bits64 value)) bytes e = cut_not_unknown (notify_64_at action.TranArm bytes) e
 
 -- a message in ranges, as its body is read
 pub record IsRead (m : Message) : Type 0 where
@@ -147,9 +154,12 @@ is_read (msg.Lseek whence.Current by) e = record { again = ap known_or_malformed
 is_read (msg.Lseek whence.End by) e = record { again = ap known_or_malformed (lseek_again whence.End by e); type = omega arith; subtype = omega arith; short = omega arith }
 is_read (msg.List after) e = record { again = ap known_or_malformed (ap (λ (b : List ℕ). Some (msg.List b)) (append-nil after)); type = omega arith; subtype = omega arith; short = let r = plain_short after COMPONENT (name_short after (and_true (eqb (length after) 0 || is_component after) true e).0) in omega arith }
 is_read (msg.Chmod mode) e = record { again = ap known_or_malformed (chmod_again mode e); type = omega arith; subtype = omega arith; short = omega arith }
-is_read (msg.Notify action.Poll c code value) e = record { again = ap known_or_malformed (notify_again action.Poll c code value e); type = omega arith; subtype = omega arith; short = omega arith }
-is_read (msg.Notify action.PollArm c code value) e = record { again = ap known_or_malformed (notify_again action.PollArm c code value e); type = omega arith; subtype = omega arith; short = omega arith }
-is_read (msg.Notify action.TranArm c code value) e = record { again = ap known_or_malformed (notify_again action.TranArm c code value e); type = omega arith; subtype = omega arith; short = omega arith }
+is_read (msg.Notify action.Poll c code (Bits32 value)) e = record { again = ap known_or_malformed (notify_again action.Poll c code value e); type = omega arith; subtype = omega arith; short = omega arith }
+is_read (msg.Notify action.Poll c code (Bits64 value)) e = record { again = ap known_or_malformed (notify_64_again action.Poll c code value e); type = omega arith; subtype = omega arith; short = omega arith }
+is_read (msg.Notify action.PollArm c code (Bits32 value)) e = record { again = ap known_or_malformed (notify_again action.PollArm c code value e); type = omega arith; subtype = omega arith; short = omega arith }
+is_read (msg.Notify action.PollArm c code (Bits64 value)) e = record { again = ap known_or_malformed (notify_64_again action.PollArm c code value e); type = omega arith; subtype = omega arith; short = omega arith }
+is_read (msg.Notify action.TranArm c code (Bits32 value)) e = record { again = ap known_or_malformed (notify_again action.TranArm c code value e); type = omega arith; subtype = omega arith; short = omega arith }
+is_read (msg.Notify action.TranArm c code (Bits64 value)) e = record { again = ap known_or_malformed (notify_64_again action.TranArm c code value e); type = omega arith; subtype = omega arith; short = omega arith }
 is_read msg.Close e = record { again = refl; type = omega arith; subtype = omega arith; short = omega arith }
 is_read msg.Fstat e = record { again = refl; type = omega arith; subtype = omega arith; short = omega arith }
 

@@ -4,6 +4,7 @@ use Rattle.std.specs.Int.{Width, w8, w16, w32, w64, byte_len, from_le_bytes, cas
 use Rattle.qx_types.specs.Optional.{◌>>=◌}
 use Rattle.qx_types.specs.declared.fields.NotifyAction.{NotifyAction}
 use Rattle.qx_types.specs.declared.fields.NotifyAction.TheVariants as action
+use Rattle.qx_types.specs.declared.fields.PulseValue.TheVariants.{Bits32, Bits64}
 use Rattle.qx_types.specs.declared.fields.Whence.{Whence}
 use Rattle.qx_types.specs.declared.fields.Whence.TheVariants as whence
 use Rattle.qx_types.specs.declared.limits.TheConstants.Limits.{BODY}
@@ -61,7 +62,14 @@ notify_at act body = do
   conditions ← number_at w8 body
   code ← number_at w8 conditions.1
   value ← number_at w32 code.1
-  ended value.1 (msg.Notify act (record { 0 = conditions.0 }) code.0 value.0)
+  ended value.1 (msg.Notify act (record { 0 = conditions.0 }) code.0 (Bits32 value.0))
+
+unfoldable pub notify_64_at : NotifyAction → List ℕ → Option Message
+notify_64_at act body = do
+  conditions ← number_at w8 body
+  code ← number_at w8 conditions.1
+  value ← number_at w64 code.1
+  ended value.1 (msg.Notify act (record { 0 = conditions.0 }) code.0 (Bits64 value.0))
 
 -- ---- bodies of all kinds
 
@@ -93,6 +101,9 @@ cases body =
     case 265 0 (notify_at action.Poll body) ∷
     case 265 1 (notify_at action.PollArm body) ∷
     case 265 2 (notify_at action.TranArm body) ∷
+    case 266 0 (notify_64_at action.Poll body) ∷
+    case 266 1 (notify_64_at action.PollArm body) ∷
+    case 266 2 (notify_64_at action.TranArm body) ∷
     []
 
 abbrev pub known_or_malformed : Option Message → Meaning

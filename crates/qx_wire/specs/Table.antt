@@ -5,9 +5,11 @@ use Rattle.std.specs.Int.{Width, w8, w16, w32, w64, to_le_bytes, cast_unsigned}
 use Rattle.std.specs.List.{list_all, flat_map}
 use Rattle.qx_types.specs.declared.fields.NotifyAction.{NotifyAction}
 use Rattle.qx_types.specs.declared.fields.NotifyAction.TheVariants as action
+use Rattle.qx_types.specs.declared.fields.PulseValue.{PulseValue}
+use Rattle.qx_types.specs.declared.fields.PulseValue.TheVariants.{Bits32, Bits64}
 use Rattle.qx_types.specs.declared.fields.Whence.{Whence}
 use Rattle.qx_types.specs.declared.fields.Whence.TheVariants as whence
-use Rattle.qx_types.specs.declared.limits.TheConstants.Limits.{BODY, FIRST_CONNECTION, LAST_CONNECTION, MODE, PULSE_CODE, PULSE_VALUE, TRANSFER}
+use Rattle.qx_types.specs.declared.limits.TheConstants.Limits.{BODY, FIRST_CONNECTION, LAST_CONNECTION, MODE, PULSE_CODE, PULSE_VALUE, PULSE_VALUE_64, TRANSFER}
 use Rattle.qx_wire.specs.declared.message.Message.{Message}
 use Rattle.qx_wire.specs.declared.message.Message.TheVariants as msg
 use Rattle.qx_wire.specs.Rests.{joined, is_component, is_rest}
@@ -58,8 +60,10 @@ conditions_field n = number w8 (λ n. nat_le 1 n && nat_le n 3) n
 abbrev pub pulse_code : ℕ → Field
 pulse_code n = number w8 (λ n. nat_le n PULSE_CODE) n
 
-abbrev pub pulse_value : ℕ → Field
-pulse_value n = number w32 (λ n. nat_le n PULSE_VALUE) n
+-- of either width
+abbrev pub pulse_value : PulseValue → Field
+pulse_value (Bits32 n) = number w32 (λ n. nat_le n PULSE_VALUE) n
+pulse_value (Bits64 n) = number w64 (λ n. nat_le n PULSE_VALUE_64) n
 
 -- what a path has behind its mount
 abbrev pub rest : List (List ℕ) → Field
@@ -94,6 +98,11 @@ action_number action.Poll = 0
 action_number action.PollArm = 1
 action_number action.TranArm = 2
 
+-- the type of a notification, by the width of its value
+abbrev pub notify_type : PulseValue → ℕ
+notify_type (Bits32 n) = 265
+notify_type (Bits64 n) = 266
+
 -- type, subtype and fields of each message
 abbrev pub row : Message → TableLine
 row (msg.Open f m r) = line 256 1 (flags f.0 ∷ mode m ∷ rest r ∷ [])
@@ -108,7 +117,7 @@ row (msg.Lseek from by) = line 261 (whence_number from) (offset by ∷ [])
 row msg.Fstat = line 262 0 []
 row (msg.List after) = line 263 0 (name after ∷ [])
 row (msg.Chmod m) = line 264 0 (mode m ∷ [])
-row (msg.Notify act c code value) = line 265 (action_number act) (conditions_field c.0 ∷ pulse_code code ∷ pulse_value value ∷ [])
+row (msg.Notify act c code value) = line (notify_type value) (action_number act) (conditions_field c.0 ∷ pulse_code code ∷ pulse_value value ∷ [])
 
 -- ---- spelling
 

@@ -1,6 +1,6 @@
 use crate::borrowed::BorrowedBytes;
 use crate::rest::Rest;
-use qx_types::{Coid, Conds, NotifyAction, OFlags, Whence};
+use qx_types::{Coid, Conds, NotifyAction, OFlags, PulseValue, Whence};
 
 /// What a client tells a manager. Its texts and bytes stand in the bytes that it was read from. The names beside are
 /// those of QNX's messages (Writing a Resource Manager: connect messages, I/O messages); fields and ranges are this
@@ -56,13 +56,13 @@ pub enum Message<'a> {
     Chmod {
         mode: u16,
     },
-    /// Asks which of the conditions hold, or for a pulse with this code, 0 to 127, and this value, below 2^28, when one
-    /// of them comes to hold (`_IO_NOTIFY`).
+    /// Asks which of the conditions hold, or for a pulse with this code, 0 to 127, and this value, below 2^28 or below 2^60,
+    /// when one of them comes to hold (`_IO_NOTIFY`; that it is of one type for each width of a value is this profile).
     Notify {
         action: NotifyAction,
         conditions: Conds,
         code: u8,
-        value: u32,
+        value: PulseValue,
     },
 }
 

@@ -1,11 +1,11 @@
 ghost use Rattle.std.specs.Prelude.{◌≡◌, ◌==◌, ◌||◌, ◌&&◌, ◌%◌, length, nat_le, nat_lt};
 ghost use Rattle.qx_types.specs.declared.limits.TheConstants.Limits.{FIRST_CONNECTION, LAST_CONNECTION};
 ghost use Rattle.qx_wire.specs.Rests.{is_component};
-ghost use Rattle.qx_wire.specs.Table.{in_ranges, is_i64};
+ghost use Rattle.qx_wire.specs.Table.{in_ranges, is_i64, pulse_value};
 
 use crate::message::Message;
 use crate::rest::is_component;
-use qx_types::{Coid, Conds, Limits, OFlags};
+use qx_types::{Coid, Conds, Limits, OFlags, PulseValue};
 
 /// Whether each value of the message is in its range: what `encode` asks for, and what every message that was read
 /// meets.
@@ -31,9 +31,7 @@ pub fn in_ranges(message: &Message<'_>) -> bool
             code,
             value,
             ..
-        } => are_conditions(*conditions)
-            && *code <= Limits::PULSE_CODE
-            && *value <= Limits::PULSE_VALUE,
+        } => are_conditions(*conditions) && *code <= Limits::PULSE_CODE && is_pulse_value(*value),
     }
 }
 
@@ -57,6 +55,16 @@ pub fn is_offset(_offset: i64) -> bool
     ensures offset { result ≡ is_i64 _offset }
 {
     true
+}
+
+/// Whether a pulse may have that value beside the bits that tell of conditions (this profile).
+fn is_pulse_value(value: PulseValue) -> bool
+    ensures value { result ≡ (pulse_value value).good }
+{
+    match value {
+        PulseValue::Bits32(value) => value <= Limits::PULSE_VALUE,
+        PulseValue::Bits64(value) => value <= Limits::PULSE_VALUE_64,
+    }
 }
 
 /// Whether they are INPUT, OUTPUT or both (this profile).

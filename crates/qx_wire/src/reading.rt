@@ -1,15 +1,15 @@
-ghost use Rattle.std.specs.Prelude.{◌≡◌, ◌<◌, Option, None, Some, if◌then◌else◌};
+ghost use Rattle.std.specs.Prelude.{◌≡◌, ◌<◌, Option, None, Some};
 ghost use Rattle.std.specs.Int.{w8, w16, w32, w64};
 ghost use Rattle.std.specs.Option.{option_map};
 ghost use Rattle.qx_wire.specs.Laws.{IfKnown};
-ghost use Rattle.qx_wire.specs.Reading.{body_cut, chmod_at, cut, dup_at, ended, judged_where, known_or_malformed, lseek_at, mknod_at, notify_at, number_at, open_at, read_at};
+ghost use Rattle.qx_wire.specs.Reading.{body_cut, chmod_at, cut, dup_at, ended, judged_where, known_or_malformed, lseek_at, mknod_at, notify_64_at, notify_at, number_at, open_at, read_at};
 ghost use Rattle.qx_wire.specs.Table.{spelling};
 
 use crate::borrowed::BorrowedBytes;
 use crate::message::{Meaning, Message};
 use crate::ranges::in_ranges;
 use crate::rest::Rest;
-use qx_types::{Coid, Conds, Limits, NotifyAction, OFlags, Whence};
+use qx_types::{Coid, Conds, Limits, NotifyAction, OFlags, PulseValue, Whence};
 
 /// A number of 8 bits, and the bytes after it.
 fn u8_at(bytes: &[u8]) -> Option<(u8, &[u8])>
@@ -154,7 +154,25 @@ fn notify_at(action: NotifyAction, body: &[u8]) -> Option<Message<'_>>
             action,
             conditions: Conds(conditions),
             code,
-            value,
+            value: PulseValue::Bits32(value),
+        },
+    )
+}
+
+#[tactic(auto, unfolding(crate::specs::Reading::notify_64_at))]
+fn notify_64_at(action: NotifyAction, body: &[u8]) -> Option<Message<'_>>
+    ensures { result ≡ notify_64_at action body.now }
+{
+    let (conditions, body) = u8_at(body)?;
+    let (code, body) = u8_at(body)?;
+    let (value, body) = u64_at(body)?;
+    ended(
+        body,
+        Message::Notify {
+            action,
+            conditions: Conds(conditions),
+            code,
+            value: PulseValue::Bits64(value),
         },
     )
 }
@@ -207,6 +225,9 @@ fn body_cut(kind: u16, subtype: u16, body: &[u8], judges: bool) -> Meaning<'_>
         (265, 0) => known(notify_at(NotifyAction::Poll, body), judges),
         (265, 1) => known(notify_at(NotifyAction::PollArm, body), judges),
         (265, 2) => known(notify_at(NotifyAction::TranArm, body), judges),
+        (266, 0) => known(notify_64_at(NotifyAction::Poll, body), judges),
+        (266, 1) => known(notify_64_at(NotifyAction::PollArm, body), judges),
+        (266, 2) => known(notify_64_at(NotifyAction::TranArm, body), judges),
         _ => Meaning::Unknown,
     }
 }

@@ -1,11 +1,11 @@
 ghost use Rattle.std.specs.Prelude.{◌≡◌, ◌≤◌, ◌++◌, IsTrue, IfOk, IsOk, OnErr, OnOk, length, vec_capacity};
-ghost use Rattle.std.specs.Int.{w8, w16, w32, to_le_bytes};
+ghost use Rattle.std.specs.Int.{w8, w16, w32, w64, to_le_bytes};
 ghost use Rattle.qx_bytes.specs.Memory.{FitInto, kept_beside};
 ghost use Rattle.qx_types.specs.declared.limits.TheConstants.Limits.{BODY};
 ghost use Rattle.qx_wire.specs.Table.{action_number, framed, in_ranges, spelling, whence_number};
 
 use crate::message::Message;
-use qx_types::{MessageBytes, NoMemory, NotifyAction, Whence};
+use qx_types::{MessageBytes, NoMemory, NotifyAction, PulseValue, Whence};
 
 /// The one spelling of a message whose values are in their ranges. Where its bytes do not stand inline they take the memory
 /// that is there, for which more is taken only where they don't fit.
@@ -45,12 +45,24 @@ pub fn encode(memory: &mut Vec<u8>, message: &Message<'_>) -> Result<MessageByte
             action,
             conditions,
             code,
-            value,
+            value: PulseValue::Bits32(value),
         } => framed(
             memory,
             265,
             action_number(*action),
             &notification(conditions.0, *code, *value),
+            &[],
+        ),
+        Message::Notify {
+            action,
+            conditions,
+            code,
+            value: PulseValue::Bits64(value),
+        } => framed(
+            memory,
+            266,
+            action_number(*action),
+            &notification_64(conditions.0, *code, *value),
             &[],
         ),
     }
@@ -71,6 +83,14 @@ fn notification(conditions: u8, code: u8, value: u32) -> [u8; 6]
 {
     let [v0, v1, v2, v3] = value.to_le_bytes();
     [conditions, code, v0, v1, v2, v3]
+}
+
+/// The same with a value of 64 bits.
+fn notification_64(conditions: u8, code: u8, value: u64) -> [u8; 10]
+    ensures notification { result ≡ to_le_bytes w8 conditions ++ (to_le_bytes w8 code ++ to_le_bytes w64 value) }
+{
+    let [v0, v1, v2, v3, v4, v5, v6, v7] = value.to_le_bytes();
+    [conditions, code, v0, v1, v2, v3, v4, v5, v6, v7]
 }
 
 /// The subtype of a seek.

@@ -64,6 +64,9 @@ ATwoByteNumber = ANumber greatest_of_two_bytes refl
 abbrev pub AFourByteNumber : Kind
 AFourByteNumber = ANumber greatest_of_four_bytes refl
 
+abbrev pub AnEightByteNumber : Kind
+AnEightByteNumber = ANumber greatest_moment refl
+
 abbrev pub AMoment : Kind
 AMoment = ANumber greatest_moment refl
 

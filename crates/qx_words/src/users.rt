@@ -1,8 +1,8 @@
-ghost use Rattle.std.specs.Prelude.{true, false, ◌≡◌, ◌<◌, ◌≤◌, ◌++◌, ◌∷◌, [], IfSome, OnErr, OnOk, length, nat_lt, not, position};
+ghost use Rattle.std.specs.Prelude.{true, false, ◌≡◌, ◌<◌, ◌≤◌, ◌++◌, ◌∷◌, [], IfSome, OnErr, OnOk, length, nat_lt, not, position, replicate};
 ghost use Rattle.std.specs.List.{list_any};
 ghost use Rattle.std.specs.Str.{bytes_eq};
 ghost use Rattle.qx_types.specs.Configuration.{is_user_name};
-ghost use Rattle.qx_types.specs.declared.limits.TheConstants.Limits.{USERS, WORKERS};
+ghost use Rattle.qx_types.specs.declared.limits.TheConstants.Limits.{CEILING, USERS, WORKERS};
 ghost use Rattle.qx_words.specs.Words.{user_in_word};
 
 use qx_types::{Bytes, Config, Limits, NoMemory, User};
@@ -63,11 +63,11 @@ impl Users {
         Ok(())
     }
 
-    /// The configuration of these users and so many workers.
+    /// The configuration of these users and so many workers, in which no ceiling is set.
     pub fn into_config(self, workers: u8) -> Config
         requires some { 1 ≤ workers }
         requires few { workers ≤ WORKERS }
-        ensures config { result ≡ record { users = self; workers = workers } }
+        ensures config { result ≡ record { users = self; workers = workers; ceilings = replicate (length self) CEILING } }
     {
         let Users { names } = self;
         match Config::new(names, workers) {
@@ -80,6 +80,7 @@ impl Users {
     #[tactic(auto, unfolding(crate::specs::Words::user_in_word))]
     pub fn find(&self, word: &[u8]) -> Option<User>
         ensures found { result ≡ user_in_word self.now word.now }
+        ensures within { IfSome result (λ user. (1 ≤ user.0) × (user.0 ≤ length self.now)) }
     {
         let place = place_of(&self.names, word)?;
         Some(User(place as u8 + 1))

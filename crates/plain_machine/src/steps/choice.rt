@@ -204,10 +204,10 @@ fn next_count(dice: &mut Dice) -> u8 {
     }
 }
 
-/// One of a few priorities, so that many are equal, and now and then any number up to 65.
+/// One of a few priorities, so that many are equal, and now and then any number up to 254.
 fn next_prio(dice: &mut Dice) -> Prio {
     if dice.one_in(8) {
-        Prio(dice.below(66))
+        Prio(dice.below(255))
     } else {
         Prio(1 + 15 * dice.below(5))
     }

@@ -38,13 +38,15 @@ pub fn next_arming(dice: &mut Dice, plain: &Plain, proc: Proc) -> Option<Request
     if is_full {
         return Some(next_notify(dice, coid));
     }
-    Some(Request::Notify {
+    let (conds, code, value) = (Conds(1 + dice.below(3)), dice.below(128), dice.below(100));
+    Some(notification(
+        dice,
         coid,
-        action: NotifyAction::TranArm,
-        conds: Conds(1 + dice.below(3)),
-        code: dice.below(128),
-        value: u32::from(dice.below(100)),
-    })
+        NotifyAction::TranArm,
+        conds,
+        code,
+        u32::from(value),
+    ))
 }
 
 /// A notification over a connection, of any action.
@@ -54,12 +56,35 @@ pub fn next_notify(dice: &mut Dice, coid: Coid) -> Request {
         1 => NotifyAction::PollArm,
         _ => NotifyAction::TranArm,
     };
-    Request::Notify {
-        coid,
-        action,
-        conds: next_conditions(dice),
-        code: next_code(dice),
-        value: next_value(dice),
+    let (conds, code, value) = (next_conditions(dice), next_code(dice), next_value(dice));
+    notification(dice, coid, action, conds, code, value)
+}
+
+/// A notification of this value, and now and then one whose value has as many bits more as that may have.
+fn notification(
+    dice: &mut Dice,
+    coid: Coid,
+    action: NotifyAction,
+    conds: Conds,
+    code: u8,
+    value: u32,
+) -> Request {
+    if dice.one_in(4) {
+        Request::Notify64 {
+            coid,
+            action,
+            conds,
+            code,
+            value: u64::from(value) << 32 | 0xffff_ffff,
+        }
+    } else {
+        Request::Notify {
+            coid,
+            action,
+            conds,
+            code,
+            value,
+        }
     }
 }
 

@@ -2,10 +2,11 @@
 use Rattle.std.specs.Prelude.{◌≡◌, ◌≢◌, ◌+◌, ◌<◌, ◌++◌, ℕ, List, [], ◌∷◌, None, Some, Contains, get_or, length, map, refl, slice_get, unwrap_or}
 use Rattle.std.specs.FinMap as maps
 use Rattle.std.specs.Coded.{Coded, code_by, coded×, coded_ℕ, coded_list}
+use Rattle.qx_types.specs.declared.fields.PulseValue.TheVariants.{Bits32}
 use Rattle.qx_lists.specs.Table.{ContainsList, Table, nodes_of, with_nodes, without}
 use Rattle.qx_machine.specs.declared.rows.Event.{Event}
 use Rattle.qx_machine.specs.declared.rows.Pulse.{Pulse}
-use Rattle.qx_machine.specs.Events.{Events, event_count}
+use Rattle.qx_machine.specs.Events.{Events, event_count, number_of}
 use Rattle.qx_notify.specs.Events.{AllEvents, AreLimited}
 
 -- the numbers of a user's lists: that of armed events, and under each process' number that of its pulses
@@ -29,14 +30,14 @@ lists_of lists = lists.armed ∷ lists.pulses
 -- ---- what the lists tell
 
 abbrev pub no_event : Event
-no_event = record { process = 0; block = 0; conditions = record { 0 = 0 }; code = 0; value = 0 }
+no_event = record { process = 0; block = 0; conditions = record { 0 = 0 }; code = 0; value = Bits32 0 }
 
 abbrev pub event_at : Table Event → ℕ → Event
 event_at t node = unwrap_or (maps.get t.values node) no_event
 
 -- the value of an event that has given its pulse is the pulse's
 abbrev pub given : Event → Pulse
-given event = record { code = event.code; value = event.value }
+given event = record { code = event.code; value = number_of event.value }
 
 abbrev pub armed_in : Table Event → ℕ → List Event
 armed_in t list = map (event_at t) (nodes_of t list)

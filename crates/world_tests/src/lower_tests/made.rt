@@ -7,7 +7,7 @@ use qx_machine::{Attribute, Kind};
 use qx_paths::{Mount, Mounts, read_path};
 use qx_procs::Processes;
 use qx_types::{
-    Answer, Bytes, Config, Manager, MessageBytes, NoMemory, OFlags, Outcome, Prio, User,
+    Answer, Bytes, Config, Manager, MessageBytes, NoMemory, OFlags, OutOfRange, Outcome, Prio, User,
 };
 use qx_wire::{Message, Rest, encode, in_ranges};
 use std::alloc::{AllocError, Global};
@@ -104,9 +104,23 @@ fn is_of_ann_and_bob(config: &Config) -> bool {
         && config.name(User(3)).is_none()
 }
 
+/// Whether ceilings are set from 1 on for users who are there, the last one of a user holds, and all others stay.
+fn sets_ceilings(config: &mut Config) -> bool {
+    config.set_ceiling(User(1), Prio(0)) == Err(OutOfRange)
+        && config.set_ceiling(User(0), Prio(1)) == Err(OutOfRange)
+        && config.set_ceiling(User(3), Prio(1)) == Err(OutOfRange)
+        && config.ceiling(User(1)) == Prio(63)
+        && config.set_ceiling(User(2), Prio(1)) == Ok(())
+        && config.set_ceiling(User(2), Prio(255)) == Ok(())
+        && config.ceiling(User(1)) == Prio(63)
+        && config.ceiling(User(2)) == Prio(255)
+}
+
 fn names(alloc: Global) -> Result<bool, NoMemory> {
     match config(alloc)? {
-        Some(config) => Ok(is_of_ann_and_bob(&config.clone()?)),
+        Some(mut config) => {
+            Ok(sets_ceilings(&mut config) && is_of_ann_and_bob(&config.clone()?))
+        }
         None => Ok(false),
     }
 }
@@ -157,7 +171,7 @@ fn mounted(alloc: Global) -> Result<bool, NoMemory> {
 }
 
 fn spawned(alloc: Global) -> Result<bool, NoMemory> {
-    Ok(Processes::new(alloc)?.spawn(2, Prio(10))? == Outcome::Spawned(1))
+    Ok(Processes::new(alloc)?.spawn(Prio(10), 2, Prio(10))? == Outcome::Spawned(1))
 }
 
 /// A file of user 1.

@@ -7,7 +7,9 @@ use qx_machine::{Caller, Client, Context, Effect, Over, ServerName, Target};
 use qx_notify::AllEvents;
 use qx_process::{Reply, Room};
 use qx_resmgr::{Done, serve};
-use qx_types::{Coid, Conds, Errno, Manager, NoMemory, NotifyAction, OFlags, Prio, User};
+use qx_types::{
+    Coid, Conds, Errno, Manager, NoMemory, NotifyAction, OFlags, Prio, PulseValue, User,
+};
 use qx_wire::{BorrowedBytes, Message, Rest, in_ranges};
 use std::alloc::{AllocError, Global};
 use std::marker::Model;
@@ -111,7 +113,7 @@ fn message(ask: Ask) -> Message<'static> {
             action,
             conditions: Conds::INPUT,
             code: 7,
-            value: 9,
+            value: PulseValue::Bits32(9),
         },
     }
 }

@@ -53,15 +53,27 @@ const SPELLINGS: &[(&str, &str)] = &[
     ("08010000020000008001", "Chmod { mode: 384 }"),
     (
         "0901000006000000010203000000",
-        "Notify { action: Poll, conditions: Conds(1), code: 2, value: 3 }",
+        "Notify { action: Poll, conditions: Conds(1), code: 2, value: Bits32(3) }",
     ),
     (
         "0901010006000000037fffffff0f",
-        "Notify { action: PollArm, conditions: Conds(3), code: 127, value: 268435455 }",
+        "Notify { action: PollArm, conditions: Conds(3), code: 127, value: Bits32(268435455) }",
     ),
     (
         "0901020006000000020000010000",
-        "Notify { action: TranArm, conditions: Conds(2), code: 0, value: 256 }",
+        "Notify { action: TranArm, conditions: Conds(2), code: 0, value: Bits32(256) }",
+    ),
+    (
+        "0a0100000a00000003050700000000000000",
+        "Notify { action: Poll, conditions: Conds(3), code: 5, value: Bits64(7) }",
+    ),
+    (
+        "0a0101000a000000017fffffffffffffff0f",
+        "Notify { action: PollArm, conditions: Conds(1), code: 127, value: Bits64(1152921504606846975) }",
+    ),
+    (
+        "0a0102000a00000002000000000001000000",
+        "Notify { action: TranArm, conditions: Conds(2), code: 0, value: Bits64(4294967296) }",
     ),
     ("010100000400000000100000", "Read { count: 4096 }"),
     ("010100000400000001100000", "Malformed"),
@@ -73,6 +85,9 @@ const SPELLINGS: &[(&str, &str)] = &[
     ("0901000006000000018000000000", "Malformed"),
     ("0901000006000000010000000010", "Malformed"),
     ("0901000006000000040000000000", "Malformed"),
+    ("0a0100000a00000001000000000000000010", "Malformed"),
+    ("0a01000006000000010203000000", "Malformed"),
+    ("090100000a00000003050700000000000000", "Malformed"),
     ("00010100040000000400ff01", "Malformed"),
     ("000101000400000081000000", "Malformed"),
     ("00010400050000000100ed0164", "Malformed"),
@@ -83,7 +98,7 @@ const SPELLINGS: &[(&str, &str)] = &[
     ("010203", "Malformed"),
     ("030100000100000000", "Malformed"),
     ("e703000000000000", "Unknown"),
-    ("0a0100000a00000003050700000000000000", "Unknown"),
+    ("0a01030000000000", "Unknown"),
 ];
 
 /// The bytes of hexadecimal digits.

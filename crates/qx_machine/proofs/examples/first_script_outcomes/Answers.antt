@@ -5,11 +5,12 @@ use Rattle.qx_wire.specs.Rests.{components_of}
 use Rattle.qx_wire.specs.Table.{spelling}
 use Rattle.qx_paths.specs.Paths.{path_components}
 use Rattle.qx_machine.specs.Attributes.{stat_bytes}
+use Rattle.qx_machine.specs.Clients.{may_give}
 use Rattle.qx_machine.specs.Machine.{step}
 use Rattle.qx_isolation.specs.System as system
 use Rattle.qx_machine.specs.Users.{boot_part, client, serve, settle_part, take}
 use Rattle.qx_machine.proofs.examples.first_script_outcomes.Goals as goal
 
 pub returns : goal.returns
-unfolding system.boot step boot_part client serve settle_part take stat_bytes spelling meaning cut frame_at body_cut open_at components_of path_components
+unfolding system.boot step boot_part client may_give serve settle_part take stat_bytes spelling meaning cut frame_at body_cut open_at components_of path_components
 returns c = refl

@@ -4,7 +4,7 @@ use Rattle.qx_shared.specs.declared.side.Side.TheVariants.{Reading}
 use Rattle.qx_shared.specs.Shared.{first_told, pipe_at}
 use Rattle.qx_pipe.proofs.TurnLemmas.{fewer-last, fewer-then, none-told, rested-last, settle-passed, settle-reader, settle-rested, settle-taken, some-first, told-device, told-fewer, turned-last, turns}
 use Rattle.qx_pipe.proofs.pipe.turn.Goals as goal
-use Rattle.qx_pipe.proofs.pipe.turn.Goals.{After-pass_bytes, Else-is_some, In_ok-writer, Joined-stand-ne0, Then-is_some, else-stand-ne0, then-stand-ne0+in_default-first_waiting}
+use Rattle.qx_pipe.proofs.pipe.turn.Goals.{After-pass_bytes, Else-is_some, In_ok-writer, Joined-stand-ne0, else-stand-ne0, then-stand-ne0+in_default-first_waiting}
 
 -- ---- a device
 

@@ -31,7 +31,7 @@ invariant_of-self c =
 pub returns-clause-first : goal.returns-clause-first
 returns-clause-first c =
     let own = queue-list c.self.inside.table c.self.inside.lists.items c.self.inside.counts.items c.self.invariant c.args.proc.user.0 c.args.self.now c.self.view_is c.requires.user c.deref.result.now c.deref.ensures.value c.args.proc.num c.pulses_of-queue.result c.pulses_of-queue.ensures in
-    rw (← c.self.view_is) (ap (λ event. Some (given event)) c.take_out-event.ensures.event ∙ sym (first-is c.self.inside.table c.self.inside.lists.items c.self.inside.counts.items c.self.invariant c.args.proc.user.0 own.within c.args.proc.num c.pulses_of-queue.result own.is ∙ ap (option_map (λ node. given (event_at c.self.inside.table node))) (sym c.first.ensures ∙ c.in_ok-node.was)))
+    rw (← c.self.view_is) ((λ i. Some (record { code = c.take_out-event.result.code; value = c.number_of.ensures i })) ∙ ap (λ event. Some (given event)) c.take_out-event.ensures.event ∙ sym (first-is c.self.inside.table c.self.inside.lists.items c.self.inside.counts.items c.self.invariant c.args.proc.user.0 own.within c.args.proc.num c.pulses_of-queue.result own.is ∙ ap (option_map (λ node. given (event_at c.self.inside.table node))) (sym c.first.ensures ∙ c.in_ok-node.was)))
 
 pub returns-clause-rest : goal.returns-clause-rest
 returns-clause-rest c =

@@ -1,5 +1,5 @@
-use Rattle.std.proofs.Common.{◌∙◌, [], ◌∷◌, ◌++◌, ◌==◌, ap, sym}
-use Rattle.qx_queues.specs.inner.Kept.{Carries, answered_calls, entry_of_node}
+use Rattle.std.proofs.Common.{◌∙◌, ◌==◌, ap, sym}
+use Rattle.qx_queues.specs.inner.Kept.{Carries, entry_of_node}
 use Rattle.qx_queues.specs.Nodes.{Message, node_of}
 use Rattle.qx_queues.specs.Waiting.{Answered, addressed_by, carrying}
 use Rattle.qx_queues.specs.inner.Waiting.{given_of}
