@@ -165,6 +165,10 @@ module _ (ceiling : ℕ) (users : Users) (proc : Proc) (threads prio : ℕ) (beg
   abbrev new : Users
   new = with_row users proc.user.0 started
 
+  -- the processes of all users once it is there, by its number
+  pub started-users : with_row users proc.user.0 (λ rows. put_row rows proc.num (new_process threads prio)) ≡ new
+  started-users = rw (begun.row, begun.number) refl
+
   old_none : process_of users proc ≡ None
   old_none = rw (begun.row, begun.facts.lowest) (lowest_from_free 1 begun.processes)
 

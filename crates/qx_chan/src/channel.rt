@@ -125,9 +125,12 @@ impl Channel {
         ensures spare { self.new.room ≤ max self.old.room (2 * threads) }
     {
         match self.spawn_number(ceiling, user, threads, prio) {
-            Ok(number) => {
-                self.start(ceiling, Proc { user, num: number }, threads, prio)?;
-                Ok(Outcome::Spawned(number))
+            Ok(num) => {
+                let proc = Proc { user, num };
+                self.tables.shared.reserve(threads)?;
+                self.users.start(proc, threads, prio)?;
+                self.tables.shared.add_process(proc, threads, prio);
+                Ok(Outcome::Spawned(num))
             }
             Err(outcome) => Ok(outcome),
         }
@@ -147,25 +150,6 @@ impl Channel {
             Some(processes) => processes.spawn_number(ceiling, threads, prio),
             None => Err(Outcome::WrongState),
         }
-    }
-
-    /// Starts a process under the number that it is to have: the room for its threads' nodes, its row, then the nodes.
-    fn start(
-        &mut self,
-        ceiling: Prio,
-        proc: Proc,
-        threads: u8,
-        prio: Prio,
-    ) -> Result<(), AllocError>
-        requires number { spawn_number_in ceiling.0 threads prio.0 (row_at self.old.users proc.user.0) ≡ Ok proc.num }
-        ensures ok { OnOk result (self.new ≡ after_spawn ceiling.0 self.old proc.user.0 threads prio.0) }
-        ensures err { OnErr result (self.new ≡ record self.old { room = self.new.room }) }
-        ensures spare { self.new.room ≤ max self.old.room (2 * threads) }
-    {
-        self.tables.shared.reserve(threads)?;
-        self.users.spawn(ceiling, proc.user, threads, prio)?;
-        self.tables.shared.add_process(proc, threads, prio);
-        Ok(())
     }
 
     /// A thread's request goes as a message into its manager's line with the thread's priority, and the thread is blocked, with

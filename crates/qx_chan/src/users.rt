@@ -3,14 +3,13 @@
 ghost use Rattle.std.specs.Prelude.{◌≡◌, ◌≤◌, IfOk, IsSome, OnOk, OnErr, OnSome, None, Some, slice_set};
 ghost use Rattle.std.specs.Option.{option_copied, option_copied_mut};
 ghost use Rattle.std.specs.Borrow.{sem};
-ghost use Rattle.qx_types.specs.declared.limits.TheConstants.Limits.{PROCESSES};
+ghost use Rattle.qx_types.specs.declared.limits.TheConstants.Limits.{PROCESSES, THREADS};
 ghost use Rattle.qx_types.specs.declared.outcome.Answer.TheVariants.{Failed};
-ghost use Rattle.qx_machine.specs.Clients.{spawn_number};
 ghost use Rattle.qx_machine.specs.Performing.{called_by};
-ghost use Rattle.qx_machine.specs.Processes.{answered_thread, asked_thread, ended, living, taken_thread, without_server};
-ghost use Rattle.qx_isolation.specs.Rows.{row_at, with_row};
-ghost use Rattle.qx_process.specs.Reads.{BringsRoom};
-ghost use Rattle.qx_procs.specs.Calls.{EndsAt, LosesAt, spawned};
+ghost use Rattle.qx_machine.specs.Processes.{answered_thread, asked_thread, ended, living, new_process, taken_thread, without_server};
+ghost use Rattle.qx_isolation.specs.Rows.{put_row, row_at, with_row};
+ghost use Rattle.qx_process.specs.Reads.{BringsRoom, IsPriority};
+ghost use Rattle.qx_procs.specs.Calls.{EndsAt, LosesAt};
 ghost use Rattle.qx_chan.specs.Channel.{failed};
 ghost use Rattle.qx_chan.specs.inner.Users.{HasPlace};
 ghost use Rattle.qx_chan.specs.Users.{no_processes, process_of, thread_row, with_process_of, with_thread_row};
@@ -134,21 +133,18 @@ impl Users {
         self.process_there(thread.proc).thread_there(thread.tid)
     }
 
-    /// Starts a process of a user with this ceiling.
+    /// Starts a process under a number.
     #[tactic(auto, using(crate::proofs::ProcessLemmas::lends))]
-    pub fn spawn(
-        &mut self,
-        ceiling: Prio,
-        user: User,
-        threads: u8,
-        prio: Prio,
-    ) -> Result<(), AllocError>
-        ensures ok { OnOk result (self.new ≡ with_row self.old user.0 (λ processes. spawned processes threads prio.0 (spawn_number ceiling.0 processes threads prio.0))) }
-        ensures places { HasPlace (row_at self.old user.0) }
+    pub fn start(&mut self, proc: Proc, threads: u8, prio: Prio) -> Result<(), AllocError>
+        requires few { proc.num ≤ PROCESSES }
+        requires threads { threads ≤ THREADS }
+        requires priority { IsPriority prio.0 }
+        ensures ok { OnOk result (self.new ≡ with_row self.old proc.user.0 (λ processes. put_row processes proc.num (new_process threads prio.0))) }
+        ensures places { HasPlace (row_at self.old proc.user.0) }
         ensures err { OnErr result (self.new ≡ self.old) }
     {
-        if let Some(processes) = self.processes_mut(user) {
-            processes.spawn(ceiling, threads, prio)?;
+        if let Some(processes) = self.processes_mut(proc.user) {
+            processes.start(proc.num, threads, prio)?;
         }
         Ok(())
     }

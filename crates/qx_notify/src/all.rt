@@ -169,7 +169,7 @@ impl AllEvents {
         'events: while let Some(node) = next {
             self.table.know();
             next = qx_uncounted::next(&self.table, armed, node);
-            let event = *self.table.value(node);
+            let event = self.table.value(node);
             let change = changes.of(event.block);
             if !is_any(wanted_of(event.conditions, come_to_hold(change))) {
                 continue;
@@ -180,8 +180,8 @@ impl AllEvents {
                     num: event.process,
                 };
                 let pulse = Event {
-                    value: PulseValue::Bits64(pulse_value(&event, change.after)),
-                    ..event
+                    value: PulseValue::Bits64(pulse_value(event, change.after)),
+                    ..*event
                 };
                 let queue = pulses_of(&self.lists, proc);
                 move_to(&mut self.table, armed, node, queue, pulse);

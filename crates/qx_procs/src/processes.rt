@@ -4,11 +4,12 @@ ghost use Rattle.std.specs.Prelude.{IsSome, ◌≡◌, ◌∷◌, ◌<◌, ◌�
 ghost use Rattle.std.specs.Option.{option_copied, option_copied_mut};
 ghost use Rattle.std.specs.Borrow.{sem};
 ghost use Rattle.std.specs.List.{list_any, sum_by};
-ghost use Rattle.qx_types.specs.declared.limits.TheConstants.Limits.{PROCESSES};
+ghost use Rattle.qx_types.specs.declared.limits.TheConstants.Limits.{PROCESSES, THREADS};
 ghost use Rattle.qx_machine.specs.Calls as calls;
 ghost use Rattle.qx_machine.specs.Clients as clients;
-ghost use Rattle.qx_machine.specs.Processes.{ended, living, with_connection, without_connection, with_side};
-ghost use Rattle.qx_isolation.specs.Rows.{row_at, with_row};
+ghost use Rattle.qx_machine.specs.Processes.{ended, living, new_process, with_connection, without_connection, with_side};
+ghost use Rattle.qx_isolation.specs.Rows.{put_row, row_at, with_row};
+ghost use Rattle.qx_process.specs.Reads.{IsPriority};
 ghost use Rattle.qx_procs.specs.Calls.{has_ended_in, spawn_outcome, spawned, done_or, after_or, with_prio, new_connection_number, with_new_side, EndsAt, LosesAt};
 ghost use Rattle.qx_machine.specs.Parts.{connection_of, thread_of};
 
@@ -147,13 +148,27 @@ impl Processes {
         ensures sure { IsErr (clients.spawn_number ceiling.0 self.old threads prio.0) → IsOk result }
         ensures err { OnErr result (self.new ≡ self.old) }
     {
+        // there is a place for number 0
+        let _ = &self.rows;
         match self.spawn_number(ceiling, threads, prio) {
             Ok(number) => {
-                places::put(&mut self.rows, number as usize, Process::new(threads, prio))?;
+                self.start(number, threads, prio)?;
                 Ok(Outcome::Spawned(number))
             }
             Err(outcome) => Ok(outcome),
         }
+    }
+
+    /// Starts a process of so many ready threads of a priority under a number.
+    pub fn start(&mut self, number: u8, threads: u8, prio: Prio) -> Result<(), AllocError>
+        requires few { number ≤ PROCESSES }
+        requires threads { threads ≤ THREADS }
+        requires priority { IsPriority prio.0 }
+        ensures rows { OnOk result (self.new ≡ put_row self.old number (new_process threads prio.0)) }
+        ensures place { 0 < length self.old }
+        ensures err { OnErr result (self.new ≡ self.old) }
+    {
+        places::put(&mut self.rows, number as usize, Process::new(threads, prio))
     }
 
     /// A thread gets another priority, from 1 to the user's ceiling (C Library Reference: `SchedSet`). `WrongState` where it is

@@ -6,7 +6,7 @@ use Rattle.qx_notify.proofs.KeptLemmas.{ArmedList, armed-list, process-within}
 use Rattle.qx_notify.proofs.TriggerLemmas.{Left, Stands, count-taken, counted-here, given-gone, left-all, left-given, left-passed, left-taken-out, node-process, node-there, pulse-told, taken-gone, triggers, walk-gone, walk-passed}
 use Rattle.qx_notify.proofs.all.AllEvents.trigger.Given.{Over}
 use Rattle.qx_notify.proofs.all.AllEvents.trigger.Goals as goal
-use Rattle.qx_notify.proofs.all.AllEvents.trigger.Goals.{After-armed_of-armed, After-is_any, After-know-in-Some, After-lives, After-pulses_of-queue, After-value}
+use Rattle.qx_notify.proofs.all.AllEvents.trigger.Goals.{After-armed_of-armed, After-is_any, After-know-in-Some, After-lives, After-pulses_of-queue, After-value-event}
 
 -- ---- what is known as the walk begins, and at a node
 
@@ -22,20 +22,20 @@ stand_here g c =
     let own = armed-list c.self.inside.table c.self.inside.lists.items c.self.inside.counts.items c.self.invariant c.args.user.0 c.args.self.now c.self.view_is c.requires.user c.deref.result.now c.deref.ensures.value c.armed_of-armed.result c.armed_of-armed.ensures in
     record { within = own.within; is = own.is; apart = c.self.invariant.apart; distinct = c.know-in-Some.ensures.distinct; alone = c.know-in-Some.ensures.apart }
 
-event_is : (g : Over) (c : After-value g) → event_at c.events.self-inside.table c.in-Some.node ≡ c.value.result.now
-event_is g c = ap (λ o. unwrap_or o no_event) c.value.ensures
+event_is : (g : Over) (c : After-value-event g) → event_at c.events.self-inside.table c.in-Some.node ≡ c.value-event.result.now
+event_is g c = ap (λ o. unwrap_or o no_event) c.value-event.ensures
 
 due : (g : Over) (c : After-is_any g) → is_due (g.C.Changes.before c.args.changes.now) (g.C.Changes.after c.args.changes.now) (event_at c.events.self-inside.table c.in-Some.node) ≡ c.is_any.result
 due g c =
-    ap (λ o. is_due (g.C.Changes.before c.args.changes.now) (g.C.Changes.after c.args.changes.now) (unwrap_or o no_event)) c.value.ensures
-    ∙ sym (c.is_any.ensures ∙ ap is_any (c.wanted_of.ensures ∙ ap (wanted_of c.value.result.now.conditions) (c.come_to_hold.ensures ∙ ap₂ come_to_hold c.of-change.ensures.before c.of-change.ensures.after)))
+    ap (λ o. is_due (g.C.Changes.before c.args.changes.now) (g.C.Changes.after c.args.changes.now) (unwrap_or o no_event)) c.value-event.ensures
+    ∙ sym (c.is_any.ensures ∙ ap is_any (c.wanted_of.ensures ∙ ap (wanted_of c.value-event.result.now.conditions) (c.come_to_hold.ensures ∙ ap₂ come_to_hold c.of-change.ensures.before c.of-change.ensures.after)))
 
 lives : (g : Over) (c : After-lives g) → g.C.Changes.lives c.args.changes.now (event_at c.events.self-inside.table c.in-Some.node).process ≡ c.lives.result
-lives g c = ap (λ o. g.C.Changes.lives c.args.changes.now (unwrap_or o no_event).process) c.value.ensures ∙ sym c.lives.ensures.lives
+lives g c = ap (λ o. g.C.Changes.lives c.args.changes.now (unwrap_or o no_event).process) c.value-event.ensures ∙ sym c.lives.ensures.lives
 
 queue_is : (g : Over) (c : After-pulses_of-queue g) → slice_get (lists_at c.self.inside.lists.items c.args.user.0).pulses (event_at c.events.self-inside.table c.in-Some.node).process ≡ Some c.pulses_of-queue.result
 queue_is g c =
-    ap₂ (λ l o. slice_get (lists_at l c.args.user.0).pulses (unwrap_or o no_event).process) (sym (c.deref-then-lives.ensures.value ∙ ap (λ l. l.items) c.events.invariant.lists)) c.value.ensures
+    ap₂ (λ l o. slice_get (lists_at l c.args.user.0).pulses (unwrap_or o no_event).process) (sym (c.deref-then-lives.ensures.value ∙ ap (λ l. l.items) c.events.invariant.lists)) c.value-event.ensures
     ∙ c.pulses_of-queue.ensures
 
 -- ---- the goals
@@ -53,9 +53,9 @@ next-next-requires g c =
     let here = (goal.at.next-next-requires g c).After-know-in-Some in
     node-there (left_here g here) (stand_here g here)
 
-pub value-requires : goal.value-requires
-value-requires g c =
-    let here = (goal.at.value-requires g c).After-know-in-Some in
+pub value-event-requires : goal.value-event-requires
+value-event-requires g c =
+    let here = (goal.at.value-event-requires g c).After-know-in-Some in
     c.know-in-Some.ensures.there c.armed_of-armed.result c.in-Some.node (node-there (left_here g here) (stand_here g here))
 
 pub events-smaller-then-not-is_any : goal.events-smaller-then-not-is_any
@@ -75,8 +75,8 @@ pub pulses_of-queue-requires-clause-process : goal.pulses_of-queue-requires-clau
 pulses_of-queue-requires-clause-process g c =
     let at = goal.at.pulses_of-queue-requires-clause-process g c in
     let lists = c.deref-then-lives.ensures.value ∙ ap (λ l. l.items) c.events.invariant.lists in
-    let few : c.value.result.now.process ≤ PROCESSES = rw (event_is g at.After-value) at (node-process (left_here g at.After-know-in-Some) (stand_here g at.After-know-in-Some)) in
-    rw lists (process-within c.self.inside.table c.self.inside.lists.items c.self.inside.counts.items c.self.invariant c.args.user.0 (stand_here g at.After-know-in-Some).within c.value.result.now.process few)
+    let few : c.value-event.result.now.process ≤ PROCESSES = rw (event_is g at.After-value-event) at (node-process (left_here g at.After-know-in-Some) (stand_here g at.After-know-in-Some)) in
+    rw lists (process-within c.self.inside.table c.self.inside.lists.items c.self.inside.counts.items c.self.invariant c.args.user.0 (stand_here g at.After-know-in-Some).within c.value-event.result.now.process few)
 
 pub move_to-requires-clause-node : goal.move_to-requires-clause-node
 move_to-requires-clause-node g c =
@@ -105,7 +105,7 @@ events-preserved-then-lives g c =
       lists = c.events.invariant.lists;
       left = left-given (left_here g at.After-know-in-Some) (stand_here g at.After-know-in-Some) c.pulses_of-queue.result (queue_is g at.After-pulses_of-queue) _ c.move_to.new.table c.move_to.ensures.put c.next-next.result
           (due g at.After-is_any ∙ c.if-not-is_any.false) (lives g at.After-lives ∙ c.if-lives.true)
-          (pulse-told (g.C.Changes.after c.args.changes.now) (event_at c.events.self-inside.table c.in-Some.node) c.value.result.now c.of-change.result.after c.pulse_value.result (event_is g at.After-value) c.pulse_value.ensures c.of-change.ensures.after)
+          (pulse-told (g.C.Changes.after c.args.changes.now) (event_at c.events.self-inside.table c.in-Some.node) c.value-event.result.now c.of-change.result.after c.pulse_value.result (event_is g at.After-value-event) c.pulse_value.ensures c.of-change.ensures.after)
           c.next-next.ensures c.move_to.ensures.room;
     }
 
