@@ -178,4 +178,55 @@ untriggered() { pipe_for "$1"; from=a.2.1 ask fill 3 1 07; ask read 3 1; }
 notify() { pipe_for "$1"; arm_each "$1"; for ((i = 3; i < $1 + 3; i++)); do ask notify $i poll i 5 7; done; }
 poll() { pipe_for "$1"; for ((i = 3; i < $1 + 3; i++)); do ask notify $i poll i 5 7; done; }
 
+# What one user holds, filled to the limit of each name, whose lines `limit a NAME N` come from `limits`. With no threads
+# (`threads=0`) every process is refused, and so is all that follows.
+hold() { users 1; for name in $limits; do echo "limit a ${name/=/ }"; done; "hold_$1"; echo 'show a'; }
+long() { path=$(printf '%064d' "$1"); }
+each() { local at; for ((at = 0; at < $1; at++)); do "${@:2}" "$at"; done; }
+start() { spawns "$1" 1 "${threads-4}"; }
+by() { from=a.$(($1 + 1)).1 "${@:2}"; }
+pipes_at() { echo "mount a.1.1 /a/p pipe"; }
+file() { long "$1"; first open "/a/$path" wc 600; writes first "$2"; first close 3; }
+hold_processes() { start 16; }
+hold_calls() { start 16; pipes_at; each 16 wait_all; }
+wait_all() { by "$1" first open /a/p/f rwc 600; for t in 1 2 3 4; do from=a.$(($1 + 1)).$t first fill 3 4096 07; done; }
+hold_connections() { start 1; first open /a r 000; each 63 dup_again; }
+dup_again() { first dup 3; }
+hold_servers() { start 1; each 64 leave_server /a; }
+leave_server() { echo "stat a.1.1 $1"; echo 'interrupt a.1.1'; echo 'reply a.1.1'; }
+hold_blocks() { start 4; each 256 open_top; }
+open_top() { by $(($1 / 64)) first open /a r 000; }
+hold_inodes() { start 1; each 1023 file_of 0; }
+file_of() { file "$2" "$1"; }
+hold_directories() { start 1; each 1023 deeper; }
+deeper() { if [ $(($1 % 2)) = 0 ]; then long "$1"; dir=/a/$path; first mkdir "$dir" 700; else first mkdir "$dir/$path" 700; fi; }
+hold_pipes() { start 4; pipes_at; each 256 full_pipe; }
+full_pipe() { long "$1"; by $(($1 / 64)) first open "/a/p/$path" rwc 600; by $(($1 / 64)) first fill $(($1 % 64 + 3)) 4096 07; }
+hold_closed_pipes() { start 1; pipes_at; each 1022 closed_pipe; }
+closed_pipe() { long "$1"; first open "/a/p/$path" rwc 600; first fill 3 4096 07; first close 3; }
+hold_boxes() { start 4; echo 'mount a.1.1 /a/p mailbox'; each 256 full_pipe; }
+hold_file() { start 1; file 0 65536; }
+hold_bytes() { start 1; each 16 file_of 65536; }
+hold_short_files() { start 1; each 1023 file_of 1; }
+hold_mounts() { start 1; each 7 mount_far ram; }
+mount_far() { echo "mount a.1.1 /a$(printf "/$(printf '%063d' "$2")%.0s" {1..15}) $1"; }
+hold_events() { start 4; each 128 open_top; each 128 arm_at; }
+arm_at() { by $(($1 / 64)) first notify $(($1 % 64 + 3)) tranarm io 5 7; }
+# One process with what one of each lets it have, whose four threads sent the longest message.
+hold_least() { start 1; first open /a r 000; first notify 3 tranarm io 5 7; each 4 send_long; }
+send_long() { echo "raw a.$(($1 / 4 + 1)).$(($1 % 4 + 1)) 3 $(printf '07%.0s' {1..4168})"; }
+# All at once: 8 mounts; all bytes, in 16 files; 1,000 pipes, of which 244 are open and full; 16 processes with 64 connections each; 256
+# blocks; 128 events; 64 server connections at two managers; the longest message of each thread.
+hold_all() {
+  start 16; pipes_at; each 6 mount_far ram
+  each 16 file_of 65536; for ((f = 244; f < 1000; f++)); do closed_pipe $f; done
+  each 244 full_of_61; each 12 dup_ram; each 12 dup_pipe; each 128 arm_of_61
+  each 52 leave_server /a; for ((s = 0; s < 60; s++)); do leave_pipe_server; done; each 64 send_long
+}
+full_of_61() { long "$1"; by $(($1 / 61)) first open "/a/p/$path" rwc 600; by $(($1 / 61)) first fill $(($1 % 61 + 3)) 4096 07; }
+dup_ram() { by $(($1 + 4)) first open /a r 000; for ((c = 1; c < 64; c++)); do by $(($1 + 4)) first dup 3; done; }
+dup_pipe() { by $(($1 / 3)) first dup 3; }
+arm_of_61() { by $(($1 / 61)) first notify $(($1 % 61 + 3)) tranarm io 5 7; }
+leave_pipe_server() { echo 'stat a.5.1 /a/p'; echo 'interrupt a.5.1'; echo 'reply a.5.1'; }
+
 "$@"

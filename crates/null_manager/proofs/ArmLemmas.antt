@@ -35,7 +35,7 @@ all-stay block (e ∷ es) none = elim (cases_Bool (is_on block e)) [
   | inr other ↦ rw other (ap (λ es. e ∷ es) (all-stay block es (rw other at none)))
 ]
 
-module _ (event : Event) (events : Events) (wants : wants_node event events ≡ true) where
+module _ (event : Event) (events : Events) (wants : wants_node EVENTS event events ≡ true) where
   count-left : event_count (disarmed event.block events) ≡ event_count events
   count-left = let own = both-true _ _ wants in ap (λ armed. event_count (record events { armed = armed })) (all-stay event.block events.armed (not-true _ own.0))
 
@@ -48,7 +48,7 @@ module _ (event : Event) (events : Events) (wants : wants_node event events ≡ 
       grind (arith, nat_tests)
 
   -- what a notification that arms comes to
-  pub armed : (action : NotifyAction) (conditions : Conditions) → arms_event action event conditions ≡ true → notified action event conditions events ≡ Ok (record { status = 0; events = armed_anew event events })
+  pub armed : (action : NotifyAction) (conditions : Conditions) → arms_event action event conditions ≡ true → notified EVENTS action event conditions events ≡ Ok (record { status = 0; events = armed_anew event events })
   armed Poll conditions arms = let clash : false ≡ true = arms in absurd (cc)
   armed TranArm conditions arms = rw few refl
   armed PollArm conditions arms = rw (not-true (is_any (wanted_of event.conditions conditions)) arms, few) refl
@@ -57,8 +57,8 @@ some-of : (there : Option Ocb) → is_some there ≡ true → (block : Ocb) × (
 some-of (Some block) is = (block, refl)
 some-of None is = let clash : false ≡ true = is in absurd (cc)
 
-pub wanted : (own : Told) (opened : Opened) (action : NotifyAction) (wish : PulseWish) → is_some (row_at own.blocks opened.number) ≡ true → (arms_event action (event_of opened wish) holding && wants_node (event_of opened wish) own.events) ≡ true → is_done_so got_events own (notify_deed own opened action wish) ≡ true
+pub wanted : (own : Told) (opened : Opened) (action : NotifyAction) (wish : PulseWish) → is_some (row_at own.blocks opened.number) ≡ true → (arms_event action (event_of opened wish) holding && wants_node EVENTS (event_of opened wish) own.events) ≡ true → is_done_so got_events own (notify_deed own opened action wish) ≡ true
 wanted own opened action wish there arms =
     let event = event_of opened wish in
-    let each = both-true (arms_event action event holding) (wants_node event own.events) arms in
+    let each = both-true (arms_event action event holding) (wants_node EVENTS event own.events) arms in
     rw ((some-of (row_at own.blocks opened.number) there).1, armed event own.events each.1 action holding each.0) (one-more event own.events each.1)

@@ -4,7 +4,7 @@ use Rattle.qx_errno.specs.declared.Errno.{Errno}
 use Rattle.qx_errno.specs.declared.Errno.TheVariants.{EBADF, ENFILE, ENOENT}
 use Rattle.qx_types.specs.declared.fields.NotifyAction.{NotifyAction}
 use Rattle.qx_types.specs.declared.flags.OFlags.{OFlags}
-use Rattle.qx_types.specs.declared.limits.TheConstants.Limits.{BLOCKS, PROCESSES}
+use Rattle.qx_types.specs.declared.limits.TheConstants.Limits.{BLOCKS, EVENTS, PROCESSES}
 use Rattle.qx_types.specs.declared.names.Coid.{Coid}
 use Rattle.qx_types.specs.declared.outcome.Answer.{Answer}
 use Rattle.qx_machine.specs.declared.rows.Caller.{Caller}
@@ -96,7 +96,7 @@ holding = record { input = true; output = true }
 abbrev pub notify_deed : Told → Opened → NotifyAction → PulseWish → Result (Deed Told) Errno
 notify_deed own opened action wish = do
   block ← found (row_at own.blocks opened.number) EBADF
-  given ← notified action (event_of opened wish) holding own.events
+  given ← notified EVENTS action (event_of opened wish) holding own.events
   reply_deed given.status Keeps (record own { events = given.events })
 
 abbrev pub null_connect : ConnectFunctions Told

@@ -5,7 +5,7 @@ use qx_machine::{Conditions, Effect, Event, NewDup, NewOpen, Ocb, Opened, PulseW
 use qx_notify::AllEvents;
 use qx_process::{Reply, Room};
 use qx_resmgr::{Connect, Done, Io, no_function};
-use qx_types::{Errno, NotifyAction, Whence};
+use qx_types::{Errno, Limits, NotifyAction, Whence};
 use qx_wire::Rest;
 use std::alloc::AllocError;
 
@@ -212,7 +212,7 @@ impl Io<Kept, AllEvents, Told> for Null {
             input: true,
             output: true,
         };
-        let given = waits.notify(state.user, action, event, holding)?;
+        let given = waits.notify(Limits::EVENTS, state.user, action, event, holding)?;
         Ok(given.map(Done::keeps))
     }
 }

@@ -5,7 +5,7 @@ use plain_rules::events::Event;
 use plain_rules::files::{Fault, PipeLook};
 use plain_rules::messages::{from_place, number_at};
 use plain_rules::pipes::has_waiters;
-use qx_types::{Coid, Outcome, Proc, User};
+use qx_types::{Coid, LimitName, Outcome, Proc, User};
 
 /// Where the body of a message stands.
 const BODY: usize = 8;
@@ -40,9 +40,9 @@ impl Plain {
         }
     }
 
-    /// How many events a user has armed, and pulses that nobody has taken.
-    pub fn event_count(&self, user: User) -> usize {
-        self.files.events.count(user)
+    /// Whether a user can have no further event armed.
+    pub fn is_full_of_events(&self, user: User) -> bool {
+        self.files.events.count(user) >= self.files.limit(user, LimitName::Events)
     }
 
     /// One of the connections of a process that have a block with nothing armed, by its place among them.

@@ -26,8 +26,8 @@ use plain_rules::messages::{Reading, read, write};
 use plain_rules::paths::{Mount, Mounts, judge_form, text_of};
 use plain_rules::pipes::{Answers, has_waiters};
 use qx_types::{
-    Answer, Bytes, Coid, Config, Errno, Manager, Outcome, Prio, Proc, Request, Step, Thread, User,
-    Worker,
+    Answer, Bytes, Coid, Config, Errno, LimitName, Manager, Outcome, Prio, Proc, Request, Step,
+    Thread, User, Worker,
 };
 pub use rows::{Over, Post, Row, Sent, State};
 use rows::{Connection, Hand, Queued, ServerConnection, first_out, line_up};
@@ -36,7 +36,6 @@ use std::alloc::{AllocError, Global};
 /// All rows of all users, one vector for each kind.
 pub struct Plain {
     alloc: Global,
-    config: Config,
     processes: Vec<Proc>,
     ended: Vec<Proc>,
     threads: Vec<Row>,
@@ -53,7 +52,6 @@ impl Drop for Plain {
     fn drop(self) {
         let Plain {
             alloc: _,
-            config: _,
             processes: _,
             ended: _,
             threads: _,
@@ -86,14 +84,16 @@ struct Target<'a> {
 impl Plain {
     /// The system at boot.
     pub fn new(alloc: Global, config: Config) -> Result<Plain, AllocError> {
-        let mut files = Files::new(alloc);
-        for (number, _) in (1..=16).zip(config.names()) {
-            files.add_root(User(number), 1)?;
+        let mounts = Mounts::boot(alloc, &config)?;
+        let mut files = Files::new(alloc, config);
+        for number in 1..=16 {
+            if files.config.name(User(number)).is_some() {
+                files.add_root(User(number), 1)?;
+            }
         }
         Ok(Plain {
             alloc,
-            mounts: Mounts::boot(alloc, &config)?,
-            config,
+            mounts,
             processes: Vec::new(alloc),
             ended: Vec::new(alloc),
             threads: Vec::new(alloc),
@@ -137,7 +137,7 @@ impl Plain {
     }
 
     fn spawn(&mut self, user: User, threads: u8, prio: Prio) -> Result<Outcome, AllocError> {
-        if self.config.name(user).is_none() {
+        if self.files.config.name(user).is_none() {
             return Ok(Outcome::WrongState);
         }
         if threads == 0 || threads > 4 {
@@ -271,7 +271,7 @@ impl Plain {
         text: &'a [u8],
     ) -> Result<(&Mount, &'a [u8]), Errno> {
         judge_form(path.as_slice())?;
-        self.mounts.resolve(&self.config, user, text)
+        self.mounts.resolve(&self.files.config, user, text)
     }
 
     /// Attaches a manager at a path.
@@ -301,7 +301,7 @@ impl Plain {
 
     /// The inode for the root of a new mount at the path of a text.
     fn new_root(&self, user: User, text: &[u8]) -> Result<u16, Errno> {
-        self.mounts.judge_new(&self.config, user, text)?;
+        self.mounts.judge_new(&self.files.config, user, text)?;
         self.files.free_inode(user)
     }
 
@@ -342,7 +342,7 @@ impl Plain {
     fn prio_error(&self, user: User, prio: Prio) -> Option<Errno> {
         if prio.0 == 0 {
             Some(Errno::EINVAL)
-        } else if prio.0 > self.config.ceiling(user).0 {
+        } else if prio.0 > self.files.config.limits(user).ceiling().0 {
             Some(Errno::EPERM)
         } else {
             None
@@ -591,7 +591,7 @@ impl Plain {
 
     /// Whether a user can have no further block.
     pub fn is_full(&self, user: User) -> bool {
-        self.files.block_count(user) >= 256
+        self.files.is_full(user)
     }
 
     /// How many inodes there are for all users.
@@ -655,21 +655,27 @@ impl Plain {
     }
 
     fn is_worker(&self, worker: Worker) -> bool {
-        0 < worker.0 && worker.0 <= self.config.workers()
+        0 < worker.0 && worker.0 <= self.files.config.workers()
     }
 
     /// The lowest number that no process of the user has. One that has ended keeps its number.
     fn free_process(&self, user: User) -> Option<u8> {
-        (1..=16).find(|num| {
+        let num = (1..=16).find(|num| {
             let proc = Proc { user, num: *num };
             !self.processes.contains(&proc) && !self.ended.contains(&proc)
-        })
+        })?;
+        if usize::from(num) <= self.files.limit(user, LimitName::Processes) {
+            Some(num)
+        } else {
+            None
+        }
     }
 
     fn free_connection(&self, proc: Proc) -> Result<Coid, Errno> {
+        let most = self.files.limit(proc.user, LimitName::Connections);
         match (3..=66).find(|number| self.connection(proc, Coid(*number)).is_none()) {
-            Some(number) => Ok(Coid(number)),
-            None => Err(Errno::EMFILE),
+            Some(number) if usize::from(number).saturating_sub(2) <= most => Ok(Coid(number)),
+            _ => Err(Errno::EMFILE),
         }
     }
 

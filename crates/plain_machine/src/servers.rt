@@ -4,7 +4,7 @@
 use crate::Plain;
 use crate::rows::{Over, Post, Queued, ServerConnection, State, line_up};
 use plain_rules::files::ServerName;
-use qx_types::{Manager, Prio, Proc};
+use qx_types::{LimitName, Manager, Prio, Proc};
 use std::alloc::AllocError;
 
 impl ServerConnection {
@@ -35,7 +35,7 @@ impl Plain {
             .iter()
             .filter(|server| server.name.proc.user == proc.user && server.name.manager == manager)
             .count();
-        count < 64 || self.is_connected(proc, manager)
+        count < self.files.limit(proc.user, LimitName::Servers) || self.is_connected(proc, manager)
     }
 
     /// Makes a new server connection where none is in use.

@@ -4,9 +4,6 @@ use crate::files::Fault;
 use qx_types::{Errno, Proc, User};
 use std::alloc::{AllocError, Global};
 
-/// The most armed events and untaken pulses of a user together.
-const EVENTS: usize = 128;
-
 /// The bits of the two conditions.
 pub const INPUT: u8 = 1;
 
@@ -56,8 +53,15 @@ impl Events {
     }
 
     /// The status of a notification where these conditions hold. One to poll (0) tells which of the wanted do, one to arm
-    /// (2) arms, and one for both (1) arms only where it has none to tell of. One that doesn't arm disarms.
-    pub fn notify(&mut self, action: u16, event: Event, holding: u8) -> Result<u64, Fault> {
+    /// (2) arms, and one for both (1) arms only where it has none to tell of. One that doesn't arm disarms. The user may have
+    /// so many armed events and untaken pulses together.
+    pub fn notify(
+        &mut self,
+        most: usize,
+        action: u16,
+        event: Event,
+        holding: u8,
+    ) -> Result<u64, Fault> {
         let told = if action == 2 {
             0
         } else {
@@ -66,16 +70,16 @@ impl Events {
         if action == 0 || told != 0 {
             self.disarm(event.proc.user, event.block);
         } else {
-            self.arm(event, holding)?;
+            self.arm(most, event, holding)?;
         }
         Ok(u64::from(told))
     }
 
     /// Arms an event in place of what its block had armed, unless there are too many others.
-    fn arm(&mut self, event: Event, holding: u8) -> Result<(), Fault> {
+    fn arm(&mut self, most: usize, event: Event, holding: u8) -> Result<(), Fault> {
         let user = event.proc.user;
         let own = usize::from(self.is_armed(user, event.block));
-        if self.count(user).saturating_sub(own) >= EVENTS {
+        if self.count(user).saturating_sub(own) >= most {
             return Err(Fault::Refused(Errno::EAGAIN));
         }
         self.disarm(user, event.block);

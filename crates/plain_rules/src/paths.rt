@@ -1,7 +1,7 @@
 //! Paths and mounts once more, plainly. A path's text is its components, each behind one slash.
 
 use crate::pipes::has_waiters;
-use qx_types::{Bytes, Config, Errno, Manager, User};
+use qx_types::{Bytes, Config, Errno, LimitName, Manager, User};
 use std::alloc::{AllocError, Global};
 
 /// A manager at a path of a user, by the path's text, and the inode of its root.
@@ -106,7 +106,7 @@ impl Mounts {
         {
             return Err(Errno::EEXIST);
         }
-        if self.rows.iter().filter(is_own).count() >= 8 {
+        if self.rows.iter().filter(is_own).count() >= config.limits(user).get(LimitName::Mounts) {
             return Err(Errno::ENOSPC);
         }
         Ok(())

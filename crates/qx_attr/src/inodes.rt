@@ -29,6 +29,9 @@ pub struct Inodes {
     attrs: Vec<Option<Attr>>,
     // Their room is that for inodes too.
     blocks: Blocks,
+    // How many of both there may be.
+    most_inodes: usize,
+    most_blocks: usize,
 }
 
 impl Model for Inodes {
@@ -40,7 +43,7 @@ impl Model for Inodes {
     ghost Value = { Reserved };
 
     ghost view = { λ i. record {
-      inodes = record { attributes = map attribute_of i.attrs.items; blocks = i.blocks.rows; made = i.blocks.made };
+      inodes = record { attributes = map attribute_of i.attrs.items; blocks = i.blocks.rows; made = i.blocks.made; most_inodes = i.most_inodes; most_blocks = i.most_blocks };
       room = i.blocks.room;
     } };
 
@@ -48,19 +51,25 @@ impl Model for Inodes {
       counted : AreCounted i.attrs.items i.blocks.rows;
       few : length i.blocks.rows ≤ BLOCKS + 1;
       few_inodes : length i.attrs.items ≤ INODES + 1;
+      own_inodes : i.most_inodes ≤ INODES;
+      own_blocks : i.most_blocks ≤ BLOCKS;
       numbers : vec_len i.attrs + i.blocks.room ≤ vec_capacity i.attrs;
       no_more : vec_capacity i.attrs ≤ 2 * length i.attrs.items + 2;
     } };
 }
 
 impl Inodes {
-    /// None.
-    pub fn new(alloc: Global) -> Result<Self, AllocError>
-        ensures none { IfOk result (λ inodes. inodes ≡ record { inodes = machine.no_inodes; room = 0 }) }
+    /// None, of which there may be so many.
+    pub fn new(most_inodes: usize, most_blocks: usize, alloc: Global) -> Result<Self, AllocError>
+        requires inodes { most_inodes ≤ INODES }
+        requires blocks { most_blocks ≤ BLOCKS }
+        ensures none { IfOk result (λ inodes. inodes ≡ record { inodes = machine.none_of most_inodes most_blocks; room = 0 }) }
     {
         Ok(Inodes {
             attrs: places::empty(alloc)?,
             blocks: Blocks::new(alloc)?,
+            most_inodes,
+            most_blocks,
         })
     }
 
@@ -78,6 +87,8 @@ impl Inodes {
     pub fn numbered(&self)
         ensures few { length self.now.inodes.attributes ≤ INODES + 1 }
         ensures blocks { length self.now.inodes.blocks ≤ BLOCKS + 1 }
+        ensures most_inodes { self.now.inodes.most_inodes ≤ INODES }
+        ensures most_blocks { self.now.inodes.most_blocks ≤ BLOCKS }
     {
         let _count = self.attrs.len();
     }
@@ -149,7 +160,7 @@ impl Inodes {
         ensures free { IfOk result (λ number. row_at self.now.inodes.attributes number ≡ None) }
     {
         let number = self.free_number();
-        if number <= Limits::INODES {
+        if number <= self.most_inodes {
             Ok(number as u32)
         } else {
             Err(Errno::ENOSPC)
@@ -170,7 +181,7 @@ impl Inodes {
         ensures lowest { IfOk result (λ number. number ≡ lowest_from 1 self.now.inodes.blocks) }
     {
         let number = self.blocks.free_number();
-        if number <= Limits::BLOCKS {
+        if number <= self.most_blocks {
             Ok(number as u16)
         } else {
             Err(Errno::ENFILE)
@@ -249,6 +260,7 @@ impl Inodes {
             uses: 1,
             client,
         };
+        self.numbered();
         self.put_block(number, block);
     }
 

@@ -10,6 +10,7 @@ use Rattle.qx_types.proofs.Managers.{number_below}
 use Rattle.qx_types.specs.Managers.{manager_number}
 use Rattle.qx_errno.specs.declared.Errno.TheVariants.{EAGAIN, EINVAL}
 use Rattle.qx_types.specs.declared.limits.TheConstants.Limits.{PROCESSES, THREADS}
+use Rattle.qx_types.specs.UserLimits.{UserLimits}
 use Rattle.qx_types.specs.declared.names.Manager.{Manager}
 use Rattle.qx_types.specs.declared.names.TheConstants.Manager.{COUNT}
 use Rattle.qx_types.specs.declared.names.Proc.{Proc}
@@ -63,12 +64,12 @@ pub record Numbered (processes : List (Option Process)) (threads prio number : �
 abbrev valid : ℕ → Bool
 valid threads = nat_le 1 threads && nat_le threads THREADS
 
-pub numbered : (ceiling : ℕ) (processes : List (Option Process)) (threads prio number : ℕ) → spawn_number ceiling processes threads prio ≡ Ok number → Numbered processes threads prio number
-numbered ceiling processes threads prio number is = elim (cases_Bool (valid threads)) [
+pub numbered : (limits : UserLimits) (processes : List (Option Process)) (threads prio number : ℕ) → limits.processes ≤ PROCESSES → spawn_number limits processes threads prio ≡ Ok number → Numbered processes threads prio number
+numbered limits processes threads prio number most is = elim (cases_Bool (valid threads)) [
   | inr bad ↦ let clash : Err (Refused EINVAL) ≡ Ok number = rw bad at is in absurd (cc)
-  | inl good ↦ elim (result_cases (may_give ceiling prio)) [
+  | inl good ↦ elim (result_cases (may_give limits.ceiling prio)) [
     | inr refused ↦ let clash : Err refused.0 ≡ Ok number = rw (good, refused.1) at is in absurd (cc)
-    | inl allowed ↦ elim (cases_Bool (nat_le (lowest_from 1 processes) PROCESSES)) [
+    | inl allowed ↦ elim (cases_Bool (nat_le (lowest_from 1 processes) limits.processes)) [
       | inr full ↦ let clash : Err (Refused EAGAIN) ≡ Ok number = rw (good, allowed.1, full) at is in absurd (cc)
       | inl fits ↦
           let made : Ok (lowest_from 1 processes) ≡ Ok number = rw (good, allowed.1, fits) at is in
@@ -76,41 +77,41 @@ numbered ceiling processes threads prio number is = elim (cases_Bool (valid thre
           record {
             some_thread = grind (arith, nat_tests, good);
             few_threads = grind (arith, nat_tests, good);
-            lowest_prio = given-lowest ceiling prio allowed.0 allowed.1;
+            lowest_prio = given-lowest limits.ceiling prio allowed.0 allowed.1;
             lowest = sym same;
-            few = rw (← same) (grind (arith, nat_tests, fits));
+            few = let within : lowest_from 1 processes ≤ limits.processes = grind (arith, nat_tests, fits) in omega (arith, within, most, same);
           }
     ]
   ]
 ]
 
-started-processes : (ceiling : ℕ) (rows : List (Option Process)) (threads prio number : ℕ) → spawn_number ceiling rows threads prio ≡ Ok number → spawned rows threads prio (spawn_number ceiling rows threads prio) ≡ put_row rows number (new_process threads prio)
-started-processes ceiling rows threads prio number is = rw is refl
+started-processes : (limits : UserLimits) (rows : List (Option Process)) (threads prio number : ℕ) → spawn_number limits rows threads prio ≡ Ok number → spawned rows threads prio (spawn_number limits rows threads prio) ≡ put_row rows number (new_process threads prio)
+started-processes limits rows threads prio number is = rw is refl
 
 -- a process that starts, under its number
-pub record Starts (ceiling : ℕ) (users : Users) (proc : Proc) (threads prio : ℕ) : Type 0 where
+pub record Starts (limits : UserLimits) (users : Users) (proc : Proc) (threads prio : ℕ) : Type 0 where
   pub processes : List (Option Process)
   pub row : row_at users proc.user.0 ≡ Some processes
-  pub number : spawn_number ceiling processes threads prio ≡ Ok proc.num
+  pub number : spawn_number limits processes threads prio ≡ Ok proc.num
   pub facts : Numbered processes threads prio proc.num
 
-pub starts : (ceiling : ℕ) (users : Users) (proc : Proc) (threads prio : ℕ) → spawn_number_in ceiling threads prio (row_at users proc.user.0) ≡ Ok proc.num → Starts ceiling users proc threads prio
-starts ceiling users proc threads prio is = elim (option_cases (row_at users proc.user.0)) [
+pub starts : (limits : UserLimits) (users : Users) (proc : Proc) (threads prio : ℕ) → limits.processes ≤ PROCESSES → spawn_number_in limits threads prio (row_at users proc.user.0) ≡ Ok proc.num → Starts limits users proc threads prio
+starts limits users proc threads prio most is = elim (option_cases (row_at users proc.user.0)) [
   | inl none ↦ let clash : Err WrongState ≡ Ok proc.num = rw none at is in absurd (cc)
   | inr rows ↦
-      let number : spawn_number ceiling rows.0 threads prio ≡ Ok proc.num = rw rows.1 at is in
-      record { processes = rows.0; row = rows.1; number = number; facts = numbered ceiling rows.0 threads prio proc.num number }
+      let number : spawn_number limits rows.0 threads prio ≡ Ok proc.num = rw rows.1 at is in
+      record { processes = rows.0; row = rows.1; number = number; facts = numbered limits rows.0 threads prio proc.num most number }
 ]
 
 -- where it is refused
-pub refused_spawn : (ceiling : ℕ) (c : Channel) (user threads prio : ℕ) (outcome : Outcome) → spawn_number_in ceiling threads prio (row_at c.users user) ≡ Err outcome → after_spawn ceiling c user threads prio ≡ c
-refused_spawn ceiling c user threads prio outcome is = λ i. record c { users = users i; room = room_started c.room threads (is i) }
+pub refused_spawn : (limits : UserLimits) (c : Channel) (user threads prio : ℕ) (outcome : Outcome) → spawn_number_in limits threads prio (row_at c.users user) ≡ Err outcome → after_spawn limits c user threads prio ≡ c
+refused_spawn limits c user threads prio outcome is = λ i. record c { users = users i; room = room_started c.room threads (is i) }
   where
-    users : with_row c.users user (λ processes. spawned processes threads prio (spawn_number ceiling processes threads prio)) ≡ c.users
+    users : with_row c.users user (λ processes. spawned processes threads prio (spawn_number limits processes threads prio)) ≡ c.users
     users = elim (option_cases (row_at c.users user)) [
-      | inl none ↦ with_row-none c.users user (λ processes. spawned processes threads prio (spawn_number ceiling processes threads prio)) none
+      | inl none ↦ with_row-none c.users user (λ processes. spawned processes threads prio (spawn_number limits processes threads prio)) none
       | inr rows ↦
-          let refused : spawn_number ceiling rows.0 threads prio ≡ Err outcome = rw rows.1 at is in
+          let refused : spawn_number limits rows.0 threads prio ≡ Err outcome = rw rows.1 at is in
           rw (rows.1, refused) (set-row c.users user rows.0 rows.1)
     ]
 
@@ -158,9 +159,9 @@ new_waits threads (suc k) prio number = elim (cases_lt k threads) [
 new_served : (threads prio : ℕ) (manager : Manager) → served_at manager (Some (new_process threads prio)) ≡ false
 new_served threads prio manager = ap (λ servers. is_some (in_use servers)) (line_at-get_or (new_process threads prio).servers (manager_number manager) ∙ get_or-replicate COUNT (manager_number manager) no_servers [] (number_below manager))
 
-module _ (ceiling : ℕ) (users : Users) (proc : Proc) (threads prio : ℕ) (begun : Starts ceiling users proc threads prio) where
+module _ (limits : UserLimits) (users : Users) (proc : Proc) (threads prio : ℕ) (begun : Starts limits users proc threads prio) where
   abbrev started : List (Option Process) → List (Option Process)
-  started rows = spawned rows threads prio (spawn_number ceiling rows threads prio)
+  started rows = spawned rows threads prio (spawn_number limits rows threads prio)
 
   abbrev new : Users
   new = with_row users proc.user.0 started
@@ -186,7 +187,7 @@ module _ (ceiling : ℕ) (users : Users) (proc : Proc) (threads prio : ℕ) (beg
         rw begun.facts.lowest (lowest-within begun.processes has)
 
     processes : started begun.processes ≡ put_row begun.processes proc.num (new_process threads prio)
-    processes = started-processes ceiling begun.processes threads prio proc.num begun.number
+    processes = started-processes limits begun.processes threads prio proc.num begun.number
 
     here : process_of new proc ≡ Some (new_process threads prio)
     here = rw (row_at-with_same users proc.user.0 started, begun.row, processes) (put_row-same begun.processes proc.num (new_process threads prio) within)
@@ -199,7 +200,7 @@ module _ (ceiling : ℕ) (users : Users) (proc : Proc) (threads prio : ℕ) (beg
         some_same : (one other : List (Option Process)) → Some one ≡ Some other → one ≡ other
         some_same one other is = cc
 
-    pub Kept-started : (queues : Shared) → StandTogether users queues → StandTogether (with_row users proc.user.0 (λ processes. spawned processes threads prio (spawn_number ceiling processes threads prio))) (with_shared_process queues proc threads)
+    pub Kept-started : (queues : Shared) → StandTogether users queues → StandTogether (with_row users proc.user.0 (λ processes. spawned processes threads prio (spawn_number limits processes threads prio))) (with_shared_process queues proc threads)
     Kept-started queues kept = record {
       users = ap length (pipes-process queues proc threads) ∙ kept.users ∙ sym (length-with_row users proc.user.0 started);
       managers = ap length (lines-process queues proc threads) ∙ kept.managers;

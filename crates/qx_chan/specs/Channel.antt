@@ -1,5 +1,6 @@
 -- What contracts see of a channel, and what its calls make of it.
 use Rattle.std.specs.Prelude.{⊤, ℕ, ◌+◌, [], ◌∷◌, ◌++◌, List, Option, Some, None, drop, get_or, if◌then◌else◌, is_some, length, map, option_map, replicate, slice_get, slice_set}
+use Rattle.qx_types.specs.UserLimits.{UserLimits}
 use Rattle.qx_types.specs.Configuration.{Configuration}
 use Rattle.qx_types.specs.Managers.{manager_number}
 use Rattle.qx_errno.specs.declared.Errno.{Errno}
@@ -83,11 +84,11 @@ with_process_and_line c thread process manager line = record c {
   lines = with_line c.lines (manager_number manager) line;
 }
 
--- once a process of a user with this ceiling is started, if that is not refused
-abbrev pub after_spawn : ℕ → Channel → ℕ → ℕ → ℕ → Channel
-after_spawn ceiling c user threads prio = record c {
-  users = with_row c.users user (λ processes. spawned processes threads prio (spawn_number ceiling processes threads prio));
-  room = room_started c.room threads (spawn_number_in ceiling threads prio (row_at c.users user));
+-- once a process of a user with these limits is started, if that is not refused
+abbrev pub after_spawn : UserLimits → Channel → ℕ → ℕ → ℕ → Channel
+after_spawn limits c user threads prio = record c {
+  users = with_row c.users user (λ processes. spawned processes threads prio (spawn_number limits processes threads prio));
+  room = room_started c.room threads (spawn_number_in limits threads prio (row_at c.users user));
 }
 
 -- once a thread's message is sent, with room for the disconnect node of what it goes over

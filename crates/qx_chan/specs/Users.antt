@@ -1,5 +1,6 @@
 -- The processes of all users, and one process or thread among them.
 use Rattle.std.specs.Prelude.{◌≡◌, ⊤, ℕ, [], ◌∷◌, List, Option, Some, None, Result, Err, replicate}
+use Rattle.qx_types.specs.UserLimits.{UserLimits}
 use Rattle.qx_types.specs.declared.names.Proc.{Proc}
 use Rattle.qx_types.specs.declared.names.Thread.{Thread}
 use Rattle.qx_types.specs.declared.outcome.Outcome.{Outcome}
@@ -42,10 +43,10 @@ with_process_of users proc change = with_row users proc.user.0 (λ processes. wi
 abbrev pub with_thread_row : Users → Thread → (ThreadRow → ThreadRow) → Users
 with_thread_row users thread change = with_process_of users thread.proc (with_thread thread.tid change)
 
--- the number of a process of a user with this ceiling that would start now
-abbrev pub spawn_number_in : ℕ → ℕ → ℕ → Option (List (Option Process)) → Result ℕ Outcome
-spawn_number_in ceiling threads prio None = Err WrongState
-spawn_number_in ceiling threads prio (Some processes) = spawn_number ceiling processes threads prio
+-- the number of a process of a user with these limits that would start now
+abbrev pub spawn_number_in : UserLimits → ℕ → ℕ → Option (List (Option Process)) → Result ℕ Outcome
+spawn_number_in limits threads prio None = Err WrongState
+spawn_number_in limits threads prio (Some processes) = spawn_number limits processes threads prio
 
 -- how a change of a thread's priority is judged
 abbrev pub prio_outcome_in : ℕ → ℕ → ℕ → ℕ → Option (List (Option Process)) → Outcome

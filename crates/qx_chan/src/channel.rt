@@ -30,6 +30,7 @@ use qx_resources::Tables;
 use qx_shared::Shared;
 use qx_types::{
     Answer, Config, Errno, Manager, NoMemory, Outcome, Prio, Proc, Request, Thread, User,
+    UserLimits,
 };
 use std::alloc::{AllocError, Global};
 use std::marker::Model;
@@ -108,23 +109,25 @@ impl Channel {
         self.tables.shared.len(manager)
     }
 
-    /// Starts a process of a user with this ceiling, of 1 to 4 ready threads of a priority from 1 to the ceiling, under the
+    /// Starts a process of a user with these limits, of 1 to 4 ready threads of a priority from 1 to the ceiling, under the
     /// lowest free number (C Library Reference: `spawn`). `WrongState` for a user who is not there; EINVAL for other numbers;
-    /// EPERM for a priority above the ceiling; EAGAIN where the user has 16 processes. A spawn that is refused wants no memory.
+    /// EPERM for a priority above the ceiling; EAGAIN where the user has as many processes as may be. A spawn that is refused
+    /// wants no memory.
     pub fn spawn(
         &mut self,
-        ceiling: Prio,
+        limits: &UserLimits,
         user: User,
         threads: u8,
         prio: Prio,
     ) -> Result<Outcome, AllocError>
-        ensures outcome { IfOk result (λ outcome. outcome ≡ spawn_outcome (spawn_number_in ceiling.0 threads prio.0 (row_at self.old.users user.0))) }
-        ensures ok { OnOk result (self.new ≡ after_spawn ceiling.0 self.old user.0 threads prio.0) }
-        ensures sure { IsErr (spawn_number_in ceiling.0 threads prio.0 (row_at self.old.users user.0)) → IsOk result }
+        ensures outcome { IfOk result (λ outcome. outcome ≡ spawn_outcome (spawn_number_in limits.now threads prio.0 (row_at self.old.users user.0))) }
+        ensures ok { OnOk result (self.new ≡ after_spawn limits.now self.old user.0 threads prio.0) }
+        ensures sure { IsErr (spawn_number_in limits.now threads prio.0 (row_at self.old.users user.0)) → IsOk result }
         ensures err { OnErr result (self.new ≡ record self.old { room = self.new.room }) }
         ensures spare { self.new.room ≤ max self.old.room (2 * threads) }
     {
-        match self.spawn_number(ceiling, user, threads, prio) {
+        limits.know();
+        match self.spawn_number(limits, user, threads, prio) {
             Ok(num) => {
                 let proc = Proc { user, num };
                 self.tables.shared.reserve(threads)?;
@@ -139,15 +142,15 @@ impl Channel {
     /// The number of a process that would start now, or how the spawn is refused.
     fn spawn_number(
         &self,
-        ceiling: Prio,
+        limits: &UserLimits,
         user: User,
         threads: u8,
         prio: Prio,
     ) -> Result<u8, Outcome>
-        ensures number { result ≡ spawn_number_in ceiling.0 threads prio.0 (row_at self.now.users user.0) }
+        ensures number { result ≡ spawn_number_in limits.now threads prio.0 (row_at self.now.users user.0) }
     {
         match self.users.processes(user) {
-            Some(processes) => processes.spawn_number(ceiling, threads, prio),
+            Some(processes) => processes.spawn_number(limits, threads, prio),
             None => Err(Outcome::WrongState),
         }
     }

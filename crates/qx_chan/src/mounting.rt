@@ -36,7 +36,8 @@ impl Channel {
     {
         let attached = Mount::new(alloc, &mount.path, mount.manager, mount.root)?;
         resources.add_root(mount.root)?;
-        match self.tables.mounts.add(user, &mount.path, attached) {
+        let most = resources.most_mounts();
+        match self.tables.mounts.add(most, user, &mount.path, attached) {
             Ok(()) => Ok(()),
             Err(_) => unreachable!(),
         }

@@ -18,7 +18,7 @@ use qx_hint::as_mut_unchecked;
 use qx_machine::{Over, ServerName};
 use qx_process::{LostServers, Process, Room, ThreadCell, places};
 use qx_procs::Processes;
-use qx_types::{Answer, Errno, Manager, Prio, Proc, Thread, User};
+use qx_types::{Answer, Errno, Manager, Prio, Proc, Thread, User, UserLimits};
 use std::alloc::{AllocError, Global};
 use std::marker::Model;
 

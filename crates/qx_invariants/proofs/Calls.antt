@@ -11,7 +11,7 @@ use Rattle.qx_device.specs.Verdict.{Verdict, Waits, Gives, Fails}
 use Rattle.qx_device.specs.declared.TheConstants.{STATE}
 use Rattle.qx_devices.specs.Devices.{read_verdict, write_verdict}
 use Rattle.qx_devices.specs.declared.Device.{Device}
-use Rattle.qx_types.specs.declared.limits.TheConstants.Limits.{FILE, PIPE}
+use Rattle.qx_types.specs.declared.limits.TheConstants.Limits.{PIPE}
 use Rattle.qx_types.specs.declared.outcome.Answer.{Answer}
 use Rattle.qx_types.specs.declared.outcome.Answer.TheVariants.{Failed}
 use Rattle.qx_machine.specs.declared.rows.Manner.{Manner}
@@ -287,8 +287,8 @@ module _ (p : Pipe WaitingCall) where
 -- ---- files
 
 -- once bytes were put there it is no longer than before, or than to where they end
-pub put_short : (bytes new : List ℕ) (o : ℕ) → o + length new ≤ FILE → (length (put bytes o new) ≤ length bytes) ⊎ (length (put bytes o new) ≤ FILE)
-put_short bytes new o few = elim (cases_lt (length bytes) (o + length new)) [
+pub put_short : (bytes new : List ℕ) (o most : ℕ) → o + length new ≤ most → (length (put bytes o new) ≤ length bytes) ⊎ (length (put bytes o new) ≤ most)
+put_short bytes new o most few = elim (cases_lt (length bytes) (o + length new)) [
   | inl past ↦ let long = length-put bytes new o in inr (omega (arith, long, past, few))
   | inr le ↦ let long = length-put bytes new o in inl (omega (arith, long, le))
 ]

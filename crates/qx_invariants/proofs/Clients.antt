@@ -4,7 +4,8 @@ use Rattle.std.specs.Prelude.{◌&&◌, ◌||◌, not, Option, Some, None, Resul
 use Rattle.std.specs.List.{AllByRecursion, list_any}
 use Rattle.std.proofs.lemmas.Bool.{and_parts, cases_eq, cond_both, eq-eqb, eqb-true, ne_eqb}
 use Rattle.std.proofs.lemmas.Option.{same_Some}
-use Rattle.qx_types.specs.Configuration.{Configuration, ceiling_of, name_bytes}
+use Rattle.qx_types.specs.Configuration.{Configuration, limits_of, name_bytes}
+use Rattle.qx_types.specs.UserLimits.{UserLimits}
 use Rattle.qx_types.specs.Managers.{manager_number}
 use Rattle.qx_errno.specs.declared.Errno.{Errno}
 use Rattle.qx_errno.specs.declared.Errno.TheVariants.{EBADF, EINTR}
@@ -68,7 +69,7 @@ use Rattle.qx_invariants.proofs.Deeds.{Kept, cancel-gives, close_all-closed}
 use Rattle.qx_invariants.proofs.Lasting.{AreFor, AreGone, AreOfManager, AreSound, IsFitted, Lasting, Lasts, all_gone, closing_fitted, found_in, lasting-keeps, lasting_first}
 use Rattle.qx_invariants.proofs.Made.{client_blocks}
 use Rattle.qx_invariants.proofs.Managed.{HoldsKinds, IsMounted, boot_kinds, kinds-less, mount_kinds, same-less}
-use Rattle.qx_invariants.proofs.Once.{Stands, left-at, may_call-ready, spawn_free, stands_boot, stands_kept, taken_is}
+use Rattle.qx_invariants.proofs.Once.{Stands, left-at, may_call-ready, settle_stands, spawn_free, stands_boot, stands_kept, take_stands, taken_is}
 use Rattle.qx_invariants.proofs.Rows.{the-some, with_row-at, with_row-other, with_row-was}
 use Rattle.qx_invariants.proofs.Sending.{IsAddressed, Quietens, addressed-gives, mounted_sends, quiet_sends, target_in, target_of, target_of_row, unopened_at}
 use Rattle.qx_invariants.proofs.Served.{IsServed, KeepsServers, any_there, connection_served, freed_served, in_use_there, or-true, serves}
@@ -486,9 +487,9 @@ module _ (part : Part) (stands : Stands part) (h : Clientele part) where
   abbrev Gave : ClientStep → Type 0
   Gave given = Clientele given.part
 
-  spawn_clientele : (ceiling threads prio : ℕ) → Gives Gave (spawn ceiling part threads prio)
-  spawn_clientele ceiling threads prio =
-      gives_by (λ number. row_at part.processes number ≡ None) _ (spawn_number ceiling part.processes threads prio) _ (spawn_free ceiling part threads prio) (λ number free.
+  spawn_clientele : (limits : UserLimits) (threads prio : ℕ) → Gives Gave (spawn limits part threads prio)
+  spawn_clientele limits threads prio =
+      gives_by (λ number. row_at part.processes number ≡ None) _ (spawn_number limits part.processes threads prio) _ (spawn_free limits part threads prio) (λ number free.
       gives_done _ _ (same_clientele part h _ (spawn_continues part.resources.mounts part.processes h.sound number threads prio free)))
 
   call_clientele : (config : Configuration) (user : ℕ) (thread : Thread) (asked : Request) → Gives Gave (call config user part thread asked)
@@ -554,12 +555,12 @@ module _ (part : Part) (stands : Stands part) (h : Clientele part) where
   }
 
   client_given-clientele : (config : Configuration) (user : ℕ) (held : List OwnItem) (e : Step) → Gives Gave (client_given config user held part e)
-  client_given-clientele config user held (Spawn of_user threads prio) = spawn_clientele (ceiling_of config user) threads prio.0
+  client_given-clientele config user held (Spawn of_user threads prio) = spawn_clientele (limits_of config user) threads prio.0
   client_given-clientele config user held (Exit proc) = gives_on _ (found (living (row_at part.processes proc.num)) WrongState) _ (λ process is. gives_done _ _ (exit_clientele proc.num))
   client_given-clientele config user held (Call thread asked) = call_clientele config user thread asked
   client_given-clientele config user held (TakeReply thread) = reply_clientele thread
   client_given-clientele config user held (TakePulse proc) = gives_on _ (found (living (row_at part.processes proc.num)) WrongState) _ (λ process is. gives_done _ _ (pulse_taken-clientele proc.num (first_pulse proc.num part.resources.events)))
-  client_given-clientele config user held (SetPrio thread prio) = prio_clientele (ceiling_of config user) thread prio.0
+  client_given-clientele config user held (SetPrio thread prio) = prio_clientele (limits_of config user).ceiling thread prio.0
   client_given-clientele config user held (Interrupt thread) = gives_on _ (found (thread_at part thread.proc.num thread.tid) WrongState) _ (λ row is. gives_done _ _ (interrupt_clientele thread row.calls row (found-row _ _ row is) row.state refl))
   client_given-clientele config user held (Mount thread path manager) =
       gives_by (λ (mount : MountPoint). MayHappen (Mounts mount) part.resources) _ (mount_by config user part thread path manager) _ (mount_by-gives config user part thread path manager) (λ mount may. gives_done _ _ (mounted_clientele mount may))
@@ -576,12 +577,18 @@ pub record StandsWell (part : Part) : Type 0 where
   pub stands : Stands part
   pub clientele : Clientele part
 
-pub well_kept : IsKept (λ user. StandsWell)
-well_kept = record {
-  client_step = λ config user held part e h. record { stands = stands_kept.client_step config user held part e h.stands; clientele = client_clientele part h.stands h.clientele config user held e };
-  taking = λ user part own h. record { stands = stands_kept.taking user part own h.stands; clientele = take_clientele part own h.clientele };
-  serving = λ config user held part own moment h. record { stands = stands_kept.serving config user held part own moment h.stands; clientele = serve_clientele config user held part own moment h.stands h.clientele };
-  settling = λ user before held after h. record { stands = stands_kept.settling user before held after h.stands; clientele = settle_clientele before held after h.clientele };
+pub take_well : (part : Part) (own : OwnItem) → StandsWell part → StandsWell (take part own)
+take_well part own h = record { stands = take_stands part own h.stands; clientele = take_clientele part own h.clientele }
+
+pub settle_well : (before : Part) (held : List OwnItem) (after : Part) → StandsWell after → StandsWell (settle_part before held after)
+settle_well before held after h = record { stands = settle_stands before held after h.stands; clientele = settle_clientele before held after h.clientele }
+
+pub well_kept : (config : Configuration) → IsKept config (λ user. StandsWell)
+well_kept config = record {
+  client_step = λ user held part e h. record { stands = (stands_kept config).client_step user held part e h.stands; clientele = client_clientele part h.stands h.clientele config user held e };
+  taking = λ user. take_well;
+  serving = λ user held part own moment h. record { stands = (stands_kept config).serving user held part own moment h.stands; clientele = serve_clientele config user held part own moment h.stands h.clientele };
+  settling = λ user. settle_well;
 }
 
 pub well_boot : (config : Configuration) (user : ℕ) → StandsWell (boot_part config user)
@@ -589,7 +596,7 @@ unfolding boot_part
 well_boot config user = record {
   stands = stands_boot config user;
   clientele = record {
-    kinds = boot_kinds user (name_bytes config user);
+    kinds = boot_kinds (limits_of config user) user (name_bytes config user);
     sound = λ number process there. let none : None ≡ Some process = sym (none_there number) ∙ there in absurd (cc);
     has = record { clients = λ number block there. let none : None ≡ Some block = sym (none_there number) ∙ there in absurd (cc) };
   };

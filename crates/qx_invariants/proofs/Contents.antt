@@ -4,7 +4,7 @@ use Rattle.std.specs.Prelude.{Option, Some, None, option_map, slice_set}
 use Rattle.std.specs.List.{list_any}
 use Rattle.std.proofs.lemmas.Bool.{cases_eq, cond_both}
 use Rattle.qx_devices.specs.declared.Device.{Device}
-use Rattle.qx_types.specs.declared.limits.TheConstants.Limits.{INODES, FILE, FILES}
+use Rattle.qx_types.specs.UserLimits.{UserLimits}
 use Rattle.qx_machine.specs.declared.rows.Attribute.{Attribute}
 use Rattle.qx_machine.specs.declared.rows.Kind.{Kind}
 use Rattle.qx_machine.specs.declared.rows.WaitingCall.{WaitingCall}
@@ -23,6 +23,7 @@ use Rattle.qx_invariants.specs.Holds.{HasContents, HasRoom, calls_of, file_of, i
 use Rattle.qx_attr.proofs.CountLemmas.{within_table}
 use Rattle.qx_iofunc.proofs.PlaceLemmas.{put_at, row-freed, set_at}
 use Rattle.qx_invariants.proofs.Calls.{abandoned_rests}
+use Rattle.qx_invariants.proofs.Rooms.{few_inodes}
 use Rattle.qx_invariants.proofs.Rows.{IsNew, abandoned-at, freed, mapped-was, inode_is_new, put_other, unused_cases, with_row-at, with_row-other, filled-kind, content_cases, empty_cases}
 use Rattle.std.proofs.lemmas.List.Sums.{sum_by-cons}
 use Rattle.std.proofs.lemmas.Option.{same_Some}
@@ -194,18 +195,18 @@ module _ (r : Resources) (h : HasContents r) where
       }
 
   module _ (room : HasRoom r) where
-    come_contents : (which : Kind) (mode moment inode : ℕ) → IsNew r.inodes.attributes INODES inode → (names : Names) → HasContents (with_empty which inode (record r { inodes = record r.inodes { attributes = put_row r.inodes.attributes inode (new_attribute which mode r.user moment) }; names = names }))
+    come_contents : (which : Kind) (mode moment inode : ℕ) → IsNew r.inodes.attributes r.inodes.most_inodes inode → (names : Names) → HasContents (with_empty which inode (record r { inodes = record r.inodes { attributes = put_row r.inodes.attributes inode (new_attribute which mode r.user moment) }; names = names }))
     come_contents kind.File mode moment inode new names = record {
-      files = made_fits file_of _ r.files r.inodes.attributes h.files inode _ [] new.within (let most = new.most_is in let long = room.files in omega (arith, most, long)) refl;
+      files = made_fits file_of _ r.files r.inodes.attributes h.files inode _ [] new.within (let most = new.most_is in let few = few_inodes r room in let long = room.files in omega (arith, most, few, long)) refl;
       pipes = put_fits calls_of of_calls r.pipes r.inodes.attributes h.pipes inode _ new.free new.within refl;
     }
     come_contents kind.Pipe mode moment inode new names = record {
       files = put_fits file_of _ r.files r.inodes.attributes h.files inode _ new.free new.within refl;
-      pipes = made_fits calls_of of_calls r.pipes r.inodes.attributes h.pipes inode _ (pipe_of None [] [] []) new.within (let most = new.most_is in let long = room.pipes in omega (arith, most, long)) refl;
+      pipes = made_fits calls_of of_calls r.pipes r.inodes.attributes h.pipes inode _ (pipe_of None [] [] []) new.within (let most = new.most_is in let few = few_inodes r room in let long = room.pipes in omega (arith, most, few, long)) refl;
     }
     come_contents (kind.Device device) mode moment inode new names = record {
       files = put_fits file_of _ r.files r.inodes.attributes h.files inode _ new.free new.within refl;
-      pipes = made_fits calls_of of_calls r.pipes r.inodes.attributes h.pipes inode _ (pipe_of (Some device) [] [] []) new.within (let most = new.most_is in let long = room.pipes in omega (arith, most, long)) refl;
+      pipes = made_fits calls_of of_calls r.pipes r.inodes.attributes h.pipes inode _ (pipe_of (Some device) [] [] []) new.within (let most = new.most_is in let few = few_inodes r room in let long = room.pipes in omega (arith, most, few, long)) refl;
     }
     come_contents kind.Directory mode moment inode new names = record {
       files = put_fits file_of _ r.files r.inodes.attributes h.files inode _ new.free new.within refl;
@@ -221,7 +222,7 @@ module _ (r : Resources) (h : HasContents r) where
 
 pub contents-keep : (change : ResourceChange) (r : Resources) → MayHappen change r → HasRoom r → HasContents r → HasContents (with_change change r)
 contents-keep (Mounts mount) r may room h =
-    let new = inode_is_new r.inodes mount.root room.some_inodes may in
+    let new = inode_is_new r.inodes mount.root room.some_inodes may.0 in
     record {
       files = put_fits file_of _ r.files r.inodes.attributes h.files mount.root _ new.free new.within refl;
       pipes = put_fits calls_of of_calls r.pipes r.inodes.attributes h.pipes mount.root _ new.free new.within refl;
@@ -269,7 +270,7 @@ set_less (place ∷ files) (suc n) row less =
     omega (arith, now, was, rest)
 
 module _ (r : Resources) (h : HasLimits r) where
-  set_file : (inode : ℕ) (row : Option (List ℕ)) → ((bytes : List ℕ) → row ≡ Some bytes → length bytes ≤ FILE) → total_size (slice_set r.files inode row) ≤ FILES → HasLimits (record r { files = slice_set r.files inode row })
+  set_file : (inode : ℕ) (row : Option (List ℕ)) → ((bytes : List ℕ) → row ≡ Some bytes → length bytes ≤ r.limits.file) → total_size (slice_set r.files inode row) ≤ r.limits.bytes → HasLimits (record r { files = slice_set r.files inode row })
   set_file inode row file files = record {
     file = λ other bytes there. elim (row_at-set_cases r.files inode other row bytes there) [ inl was ↦ h.file other bytes was | inr put ↦ file bytes put ];
     files = files;
@@ -284,40 +285,40 @@ module _ (r : Resources) (h : HasLimits r) where
   }
 
   -- an empty file, or none
-  empty_file : (inode : ℕ) (row : Option (List ℕ)) → size_of row ≡ 0 → ((bytes : List ℕ) → row ≡ Some bytes → length bytes ≤ FILE) → HasLimits (record r { files = slice_set r.files inode row })
+  empty_file : (inode : ℕ) (row : Option (List ℕ)) → size_of row ≡ 0 → ((bytes : List ℕ) → row ≡ Some bytes → length bytes ≤ r.limits.file) → HasLimits (record r { files = slice_set r.files inode row })
   empty_file inode row none file = set_file inode row file (let less = set_less r.files inode row (omega (arith, none)) in let few = h.files in omega (arith, less, few))
 
   -- inodes and names are not seen
-  seen_limits : (now : Resources) → now.files ≡ r.files → now.pipes ≡ r.pipes → HasLimits now
-  seen_limits now files pipes = record {
-    file = λ inode bytes there. h.file inode bytes (ap (λ rows. row_at rows inode) (sym files) ∙ there);
-    files = subst (λ rows. total_size rows ≤ FILES) (sym files) h.files;
+  seen_limits : (now : Resources) → now.files ≡ r.files → now.pipes ≡ r.pipes → now.limits ≡ r.limits → HasLimits now
+  seen_limits now files pipes limits = record {
+    file = λ inode bytes there. subst (λ (l : UserLimits). length bytes ≤ l.file) (sym limits) (h.file inode bytes (ap (λ rows. row_at rows inode) (sym files) ∙ there));
+    files = subst (λ (l : UserLimits). total_size now.files ≤ l.bytes) (sym limits) (subst (λ rows. total_size rows ≤ r.limits.bytes) (sym files) h.files);
     pipe = λ inode pipe there. h.pipe inode pipe (ap (λ rows. row_at rows inode) (sym pipes) ∙ there);
   }
 
 unused_limits : (own : Kind) (inode : ℕ) (r : Resources) → HasLimits r → HasLimits (without_unused own inode r)
 unused_limits own inode r h =
     unused_cases HasLimits own inode r
-    (λ gone. let less = seen_limits r h (freed inode r) refl refl in
+    (λ gone. let less = seen_limits r h (freed inode r) refl refl refl in
     content_cases HasLimits own inode (freed inode r) (λ is. empty_file (freed inode r) less inode None refl (λ bytes none. absurd (cc))) (λ is. set_pipe (freed inode r) less inode None (λ pipe none. absurd (cc))) (λ is. less))
     (λ stays. h)
 
 pub limits-keep : (change : ResourceChange) (r : Resources) → MayHappen change r → HasLimits r → HasLimits (with_change change r)
 limits-keep (Comes inode directory name kind mode moment) r may h =
     let named = with_named inode (under directory name) (new_attribute kind mode r.user moment) r in
-    let same = seen_limits r h named refl refl in
-    empty_cases HasLimits kind inode named (λ is. empty_file named same inode (Some []) refl (λ bytes made. subst (λ bs. length bs ≤ FILE) (same_Some _ _ made) (omega arith)))
+    let same = seen_limits r h named refl refl refl in
+    empty_cases HasLimits kind inode named (λ is. empty_file named same inode (Some []) refl (λ bytes made. subst (λ bs. length bs ≤ r.limits.file) (same_Some _ _ made) (omega arith)))
     (λ device. set_pipe named same inode (Some (pipe_of device [] [] [])) (λ pipe made. subst (λ (p : Pipe WaitingCall). IsShort p) (same_Some _ _ made) (omega arith))) (λ is. same)
-limits-keep (Writes inode moment bytes) r may h = seen_limits (record r { files = slice_set r.files inode (Some bytes) }) (set_file r h inode (Some bytes) (λ other put. subst (λ bs. length bs ≤ FILE) (same_Some _ _ put) (file may.file)) (files may.files)) _ refl refl
+limits-keep (Writes inode moment bytes) r may h = seen_limits (record r { files = slice_set r.files inode (Some bytes) }) (set_file r h inode (Some bytes) (λ other put. subst (λ bs. length bs ≤ r.limits.file) (same_Some _ _ put) (file may.file)) (files may.files)) _ refl refl refl
   where
-    was_short : length may.was ≤ FILE
+    was_short : length may.was ≤ r.limits.file
     was_short = h.file inode may.was may.there
 
-    file : (length bytes ≤ length may.was) ⊎ (length bytes ≤ FILE) → length bytes ≤ FILE
+    file : (length bytes ≤ length may.was) ⊎ (length bytes ≤ r.limits.file) → length bytes ≤ r.limits.file
     file (inl fewer) = let short = was_short in omega (arith, fewer, short)
     file (inr short) = short
 
-    files : (length bytes ≤ length may.was) ⊎ (total_size (slice_set r.files inode (Some bytes)) ≤ FILES) → total_size (slice_set r.files inode (Some bytes)) ≤ FILES
+    files : (length bytes ≤ length may.was) ⊎ (total_size (slice_set r.files inode (Some bytes)) ≤ r.limits.bytes) → total_size (slice_set r.files inode (Some bytes)) ≤ r.limits.bytes
     files (inl fewer) =
         let size : size_of (row_at r.files inode) ≡ length may.was = ap size_of may.there in
         let less = set_less r.files inode (Some bytes) (omega (arith, fewer, size)) in
@@ -325,9 +326,9 @@ limits-keep (Writes inode moment bytes) r may h = seen_limits (record r { files 
         omega (arith, less, few)
     files (inr few) = few
 limits-keep (Fills inode moment after came) r may h =
-    seen_limits (record r { pipes = slice_set r.pipes inode (Some after.pipe) }) (set_pipe r h inode (Some after.pipe) (λ pipe put. subst (λ (p : Pipe WaitingCall). IsShort p) (same_Some _ _ put) (may.short (h.pipe inode may.pipe may.there)))) _ refl refl
-limits-keep (Unlinks own directory name inode mtime ctime) r may h = unused_limits own inode (with_unlinked inode (under directory name) mtime ctime r) (seen_limits r h _ refl refl)
-limits-keep (Closes own number block parting) r may h = unused_limits own block.inode (without_block number r) (seen_limits r h _ refl refl)
+    seen_limits (record r { pipes = slice_set r.pipes inode (Some after.pipe) }) (set_pipe r h inode (Some after.pipe) (λ pipe put. subst (λ (p : Pipe WaitingCall). IsShort p) (same_Some _ _ put) (may.short (h.pipe inode may.pipe may.there)))) _ refl refl refl
+limits-keep (Unlinks own directory name inode mtime ctime) r may h = unused_limits own inode (with_unlinked inode (under directory name) mtime ctime r) (seen_limits r h _ refl refl refl)
+limits-keep (Closes own number block parting) r may h = unused_limits own block.inode (without_block number r) (seen_limits r h _ refl refl refl)
 limits-keep (Abandons process) r may h = record {
   file = h.file;
   files = h.files;
@@ -335,7 +336,7 @@ limits-keep (Abandons process) r may h = record {
       let was = mapped-was (row_at r.pipes inode) (with_abandoned process) pipe (sym (abandoned-at process r.pipes inode) ∙ there) in
       subst (λ (p : Pipe WaitingCall). IsShort p) was.2 (h.pipe inode was.0 was.1);
 }
-limits-keep _ r may h = seen_limits r h _ refl refl
+limits-keep _ r may h = seen_limits r h _ refl refl refl
 
 -- ---- settled pipes and devices
 

@@ -13,7 +13,7 @@ use Rattle.qx_types.specs.declared.fields.NotifyAction.{NotifyAction}
 use Rattle.qx_types.specs.declared.fields.Whence.{Whence}
 use Rattle.qx_types.specs.declared.flags.OFlags.{OFlags}
 use Rattle.qx_types.specs.declared.flags.TheConstants.OFlags.{CREAT, EXCL, TRUNC}
-use Rattle.qx_types.specs.declared.limits.TheConstants.Limits.{FILE, FILES, INODES, LAST_CONNECTION}
+use Rattle.qx_types.specs.declared.limits.TheConstants.Limits.{LAST_CONNECTION}
 use Rattle.qx_types.specs.declared.names.Manager.{Manager}
 use Rattle.qx_types.specs.declared.names.Manager.TheVariants as managers
 use Rattle.qx_types.specs.declared.outcome.Outcome.TheVariants.{WrongState}
@@ -242,7 +242,7 @@ module _ (K : Resources → Told → Type 0) (keeps : (change : ResourceChange) 
           (λ deed closed. gives_done _ _ (record {
             block = closed.block;
             there = closed.there;
-            kept = keeps (Notifies (disarmed number deed.state.events)) deed.state (record (telling (answers ++ deed.answers) []) { seen = Closes own number closed.block parting ∷ seen }) (disarmed-kept number deed.state.events) closed.kept;
+            kept = keeps (Notifies (disarmed number deed.state.events)) deed.state (record (telling (answers ++ deed.answers) []) { seen = Closes own number closed.block parting ∷ seen }) (disarmed-kept deed.state.limits.events number deed.state.events) closed.kept;
           }))
 
   -- all of them go, one after the other
@@ -301,7 +301,7 @@ module _ (K : Resources → Told → Type 0) (keeps : (change : ResourceChange) 
       abbrev named : Resources
       named = with_named number (under is_spot.above is_spot.name) attribute r
 
-      is_new : IsNew r.inodes.attributes INODES number
+      is_new : IsNew r.inodes.attributes r.inodes.most_inodes number
       is_new = let inside = within_table r.inodes.attributes at.parent parent there in inode_is_new r.inodes number (omega (arith, inside)) free
 
       abbrev its_told : Told
@@ -603,9 +603,9 @@ module _ (K : Resources → Told → Type 0) (keeps : (change : ResourceChange) 
 
     written-gives : (number inode : ℕ) (bytes : List ℕ) (offset : ℕ) (new : List ℕ) (moment : ℕ) → row_at r.files inode ≡ Some bytes → Gives Kept (written_at r number inode bytes offset new moment)
     written-gives number inode bytes offset new moment here =
-        gives_on _ (need (nat_le (offset + length new) FILE) EFBIG) _ (λ short is_short.
-        gives_on _ (need (nat_le (total_size (slice_set r.files inode (Some (put bytes offset new)))) FILES) ENOSPC) _ (λ few is_few.
-        gives_done _ _ (alone _ _ _ (keeps (Moves number (ToOffset (offset + length new))) (with_bytes inode moment (put bytes offset new) r) nothing (λ block there. offset-moved block (offset + length new)) (keeps (Writes inode moment (put bytes offset new)) r nothing (record { was = bytes; there = here; file = put_short bytes new offset (leb-true _ _ (need-true _ _ short is_short)); files = inr (leb-true _ _ (need-true _ _ few is_few)) }) h)))))
+        gives_on _ (need (nat_le (offset + length new) r.limits.file) EFBIG) _ (λ short is_short.
+        gives_on _ (need (nat_le (total_size (slice_set r.files inode (Some (put bytes offset new)))) r.limits.bytes) ENOSPC) _ (λ few is_few.
+        gives_done _ _ (alone _ _ _ (keeps (Moves number (ToOffset (offset + length new))) (with_bytes inode moment (put bytes offset new) r) nothing (λ block there. offset-moved block (offset + length new)) (keeps (Writes inode moment (put bytes offset new)) r nothing (record { was = bytes; there = here; file = put_short bytes new offset r.limits.file (leb-true _ _ (need-true _ _ short is_short)); files = inr (leb-true _ _ (need-true _ _ few is_few)) }) h)))))
 
     write_file-gives : (over : Opened) (new : List ℕ) → Gives Kept (write_file r over new)
     write_file-gives over new =
@@ -619,7 +619,7 @@ module _ (K : Resources → Told → Type 0) (keeps : (change : ResourceChange) 
     notify-gives : (over : Opened) (action : NotifyAction) (wish : PulseWish) → Gives Kept (notify_block r over action wish)
     notify-gives over action wish =
         gives_on _ (found (row_at r.inodes.blocks over.number) EBADF) _ (λ block opened.
-        gives_by (λ (given : Notified). AreKept r.events given.events) _ (notified action (event_of over wish) (conditions_at r (Some block)) r.events) _ (notified-kept action (event_of over wish) (conditions_at r (Some block)) r.events) (λ given is.
+        gives_by (λ (given : Notified). AreKept r.limits.events r.events given.events) _ (notified r.limits.events action (event_of over wish) (conditions_at r (Some block)) r.events) _ (notified-kept r.limits.events action (event_of over wish) (conditions_at r (Some block)) r.events) (λ given is.
         gives_done _ _ (alone _ _ _ (keeps (Notifies given.events) r nothing is h))))
 
     -- ---- the managers

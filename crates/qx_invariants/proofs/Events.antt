@@ -9,7 +9,8 @@ use Rattle.std.proofs.lemmas.List.Sums.{sum_by-cons}
 use Rattle.qx_errno.specs.declared.Errno.TheVariants.{EAGAIN}
 use Rattle.qx_types.specs.declared.fields.NotifyAction.{NotifyAction}
 use Rattle.qx_types.specs.declared.fields.NotifyAction.TheVariants.{Poll, PollArm, TranArm}
-use Rattle.qx_types.specs.declared.limits.TheConstants.Limits.{EVENTS, PROCESSES}
+use Rattle.qx_types.specs.UserLimits.{UserLimits}
+use Rattle.qx_types.specs.declared.limits.TheConstants.Limits.{PROCESSES}
 use Rattle.qx_machine.specs.declared.rows.Conditions.{Conditions}
 use Rattle.qx_machine.specs.declared.rows.Event.{Event}
 use Rattle.qx_machine.specs.declared.rows.Kind.{Kind}
@@ -25,6 +26,7 @@ use Rattle.qx_process.proofs.ServerLemmas.{line_at-here, line_at-other}
 use Rattle.qx_invariants.specs.Holds.{due_pulses}
 use Rattle.qx_invariants.specs.Changes.{AreKept, Closes, Comes, MayHappen, Notifies, ResourceChange, Unlinks, with_change, with_named, with_unlinked}
 use Rattle.qx_machine.proofs.Gives.{Gives, gives_by, gives_done, gives_on, need-true}
+use Rattle.qx_invariants.proofs.Rooms.{limits_stay}
 use Rattle.qx_invariants.proofs.Rows.{content_cases, empty_cases, freed, unused_cases}
 
 -- ---- fewer events
@@ -50,39 +52,39 @@ line-length : (pulses : List (List Pulse)) (number : ℕ) (change : List Pulse �
 line-length pulses number change = length-set pulses number _
 
 -- what a block had armed goes
-pub disarmed-kept : (block : ℕ) (events : Events) → AreKept events (disarmed block events)
-disarmed-kept block events = record { few = inl (let fewer = filter-fewer (λ event. not (is_on block event)) events.armed in omega (arith, fewer)); queues = refl }
+pub disarmed-kept : (most block : ℕ) (events : Events) → AreKept most events (disarmed block events)
+disarmed-kept most block events = record { few = inl (let fewer = filter-fewer (λ event. not (is_on block event)) events.armed in omega (arith, fewer)); queues = refl }
 
 -- a process takes its first pulse
-pub taken-kept : (process : ℕ) (events : Events) → AreKept events (without_first_pulse process events)
-taken-kept process events = record {
+pub taken-kept : (most process : ℕ) (events : Events) → AreKept most events (without_first_pulse process events)
+taken-kept most process events = record {
   few = inl (let fewer = line-count events.pulses process (drop 1) 0 (λ queue. let long = length-drop 1 queue in omega (arith, long)) in omega (arith, fewer));
   queues = line-length events.pulses process (drop 1);
 }
 
 -- a process has no pulses any more
-pub ended-kept : (process : ℕ) (events : Events) → AreKept events (without_pulses process events)
-ended-kept process events = record {
+pub ended-kept : (most process : ℕ) (events : Events) → AreKept most events (without_pulses process events)
+ended-kept most process events = record {
   few = inl (let fewer = line-count events.pulses process (λ queue. []) 0 (λ queue. omega arith) in omega (arith, fewer));
   queues = line-length events.pulses process (λ queue. []);
 }
 
 -- ---- a notification
 
-arming-kept : (event : Event) (events : Events) → Gives (λ (given : Notified). AreKept events given.events) (arming event events)
-arming-kept event events =
-    gives_by (AreKept events) _ (arm_event event events) _
-    (gives_on _ (need (nat_lt (event_count (disarmed event.block events)) EVENTS) EAGAIN) _ (λ few is_few.
-    let room = ltb-true (event_count (disarmed event.block events)) EVENTS (need-true _ _ few is_few) in
+arming-kept : (most : ℕ) (event : Event) (events : Events) → Gives (λ (given : Notified). AreKept most events given.events) (arming most event events)
+arming-kept most event events =
+    gives_by (AreKept most events) _ (arm_event most event events) _
+    (gives_on _ (need (nat_lt (event_count (disarmed event.block events)) most) EAGAIN) _ (λ few is_few.
+    let room = ltb-true (event_count (disarmed event.block events)) most (need-true _ _ few is_few) in
     let longer = length-append (disarmed event.block events).armed (event ∷ []) in
     gives_done _ _ (record { few = inr (omega (arith, room, longer)); queues = refl })))
     (λ armed kept. gives_done _ _ kept)
 
-pub notified-kept : (action : NotifyAction) (event : Event) (holding : Conditions) (events : Events) → Gives (λ (given : Notified). AreKept events given.events) (notified action event holding events)
-notified-kept Poll event holding events = gives_done _ _ (disarmed-kept event.block events)
-notified-kept TranArm event holding events = arming-kept event events
-notified-kept PollArm event holding events =
-    cond_both (is_any (wanted_of event.conditions holding)) _ _ (Gives (λ (given : Notified). AreKept events given.events)) (λ is. gives_done _ _ (disarmed-kept event.block events)) (λ is. arming-kept event events)
+pub notified-kept : (most : ℕ) (action : NotifyAction) (event : Event) (holding : Conditions) (events : Events) → Gives (λ (given : Notified). AreKept most events given.events) (notified most action event holding events)
+notified-kept most Poll event holding events = gives_done _ _ (disarmed-kept most event.block events)
+notified-kept most TranArm event holding events = arming-kept most event events
+notified-kept most PollArm event holding events =
+    cond_both (is_any (wanted_of event.conditions holding)) _ _ (Gives (λ (given : Notified). AreKept most events given.events)) (λ is. gives_done _ _ (disarmed-kept most event.block events)) (λ is. arming-kept most event events)
 
 -- ---- the end of a step
 
@@ -113,8 +115,8 @@ module _ (lives : ℕ → Bool) (before after : ℕ → Conditions) (events : Ev
   pub triggered-fewer : event_count (triggered lives before after events) ≤ event_count events
   triggered-fewer = given-fewer (is_due before after) (λ event. is_due before after event && lives event.process) (λ event not_so. ap (λ b. b && lives event.process) not_so) after events.armed events.pulses
 
-  pub triggered-kept : AreKept events (triggered lives before after events)
-  triggered-kept = record { few = inl triggered-fewer; queues = given-queues (λ event. is_due before after event && lives event.process) after events.armed events.pulses }
+  pub triggered-kept : (most : ℕ) → AreKept most events (triggered lives before after events)
+  triggered-kept most = record { few = inl triggered-fewer; queues = given-queues (λ event. is_due before after event && lives event.process) after events.armed events.pulses }
 
 -- ---- whose pulses
 
@@ -175,7 +177,7 @@ module _ (lives : ℕ → Bool) (before after : ℕ → Conditions) (events : Ev
 
 pub record HasEvents (r : Resources) : Type 0 where
   -- armed events and untaken pulses together are no more than may be
-  pub few : event_count r.events ≤ EVENTS
+  pub few : event_count r.events ≤ r.limits.events
   -- there is a queue for the pulses of each process
   pub queues : length r.events.pulses ≡ PROCESSES + 1
 
@@ -203,4 +205,5 @@ kept-events _ r may h = record { few = h.few; queues = h.queues }
 pub events-keep : (change : ResourceChange) (r : Resources) → MayHappen change r → HasEvents r → HasEvents (with_change change r)
 events-keep change r may h =
     let now = kept-events change r may h in
-    record { few = subst (λ (events : Events). event_count events ≤ EVENTS) (sym (now-events change r)) now.few; queues = ap (λ (events : Events). length events.pulses) (now-events change r) ∙ now.queues }
+    let few = subst (λ (events : Events). event_count events ≤ r.limits.events) (sym (now-events change r)) now.few in
+    record { few = subst (λ (limits : UserLimits). event_count (with_change change r).events ≤ limits.events) (sym (limits_stay change r)) few; queues = ap (λ (events : Events). length events.pulses) (now-events change r) ∙ now.queues }

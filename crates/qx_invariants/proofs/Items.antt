@@ -144,7 +144,7 @@ lines-other user other apart client (change ∷ changes) lines =
 
 -- ---- in hands
 
-set-few : {A : Type 0} (which : A → Bool) (rows : List A) (n : ℕ) (row : A) → count_by which (slice_set rows n row) ≤ count_by which rows + one (which row)
+pub set-few : {A : Type 0} (which : A → Bool) (rows : List A) (n : ℕ) (row : A) → count_by which (slice_set rows n row) ≤ count_by which rows + one (which row)
 set-few which [] n row = omega arith
 set-few which (first ∷ rows) zero row = let now = count-cons which row rows in let was = count-cons which first rows in omega (arith, now, was)
 set-few which (first ∷ rows) (suc n) row = let now = count-cons which first (slice_set rows n row) in let was = count-cons which first rows in let rest = set-few which rows n row in omega (arith, now, was, rest)

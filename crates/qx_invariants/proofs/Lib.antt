@@ -38,6 +38,8 @@ pub mod Trees
 pub mod Astray
 -- each thread waits once
 pub mod Once
+-- how many processes, connections and server connections
+pub mod Few
 -- all of it, in each world that a run reaches
 pub mod Reached
 -- server connections of a process

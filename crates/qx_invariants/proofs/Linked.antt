@@ -4,7 +4,8 @@ use Rattle.std.specs.Prelude.{Option, Some, None, Result, Ok, Err, is_none}
 use Rattle.std.proofs.lemmas.Bool.{cond_both}
 use Rattle.std.proofs.lemmas.List.Sums.{sum_by-append}
 use Rattle.std.proofs.lemmas.Option.{same_Some}
-use Rattle.qx_types.specs.Configuration.{Configuration, ceiling_of}
+use Rattle.qx_types.specs.Configuration.{Configuration, limits_of}
+use Rattle.qx_types.specs.UserLimits.{UserLimits}
 use Rattle.qx_errno.specs.declared.Errno.TheVariants.{EINTR}
 use Rattle.qx_types.specs.declared.limits.TheConstants.Limits.{FIRST_CONNECTION, INODES}
 use Rattle.qx_types.specs.declared.names.Thread.{Thread}
@@ -46,7 +47,7 @@ use Rattle.qx_iofunc.proofs.StoreLemmas.{row_at-none}
 use Rattle.qx_invariants.specs.Holds.{has_open}
 use Rattle.qx_invariants.specs.Waits.{is_foreign}
 use Rattle.qx_invariants.proofs.Calls.{abandoned_part}
-use Rattle.qx_invariants.proofs.Clients.{CanSend, StandsWell, row_lives, target-sends, thread_there, well_boot, well_kept}
+use Rattle.qx_invariants.proofs.Clients.{CanSend, StandsWell, row_lives, settle_well, take_well, target-sends, thread_there, well_boot, well_kept}
 use Rattle.qx_invariants.proofs.Connected.{Connected, alike_connected, alike_with, fewer_connected, thread_alike}
 use Rattle.qx_invariants.proofs.Counts.{abandoned_count, count-cons}
 use Rattle.qx_invariants.proofs.Effects.{error_connected}
@@ -117,9 +118,9 @@ module _ (part : Part) (named : Client → ℕ) (well : StandsWell part) (h : Co
     waiters = h.waiters;
   }
 
-  spawn_connected : (ceiling threads prio : ℕ) → Gives Gave (spawn ceiling part threads prio)
-  spawn_connected ceiling threads prio =
-      gives_by (λ number. row_at part.processes number ≡ None) _ (spawn_number ceiling part.processes threads prio) _ (spawn_free ceiling part threads prio) (λ number free.
+  spawn_connected : (limits : UserLimits) (threads prio : ℕ) → Gives Gave (spawn limits part threads prio)
+  spawn_connected limits threads prio =
+      gives_by (λ number. row_at part.processes number ≡ None) _ (spawn_number limits part.processes threads prio) _ (spawn_free limits part threads prio) (λ number free.
       gives_done _ _ (quiet (record part { processes = put_row part.processes number (new_process threads prio) }) (spawned number threads prio free) [] (λ own. refl)))
 
   -- ---- a process ends
@@ -158,7 +159,7 @@ module _ (part : Part) (named : Client → ℕ) (well : StandsWell part) (h : Co
     -- its new connection has nothing open
     sent_moved : (over : Over) → sent.target.over ≡ over → Moved part.resources number (sending over) part.resources
     sent_moved (New coid) is =
-        let free : row_at can.process.connections coid.0 ≡ None = ap (row_at can.process.connections) (can.addressed.free coid (ap new_coid is)).lowest ∙ lowest_from_free FIRST_CONNECTION can.process.connections in
+        let free : row_at can.process.connections coid.0 ≡ None = ap (row_at can.process.connections) (can.addressed.free coid (ap new_coid is)) ∙ lowest_from_free FIRST_CONNECTION can.process.connections in
         kept_moved part named h number can.process can.process_there lives its_sound.served (sending (New coid)) (again (New coid)) part.resources h.waiters (λ which. refl)
         (λ c connection which at has. elim (row-put can.process.connections coid.0 (unopened_at sent.target) free c) [
           | inl same ↦ sym same ∙ at
@@ -224,13 +225,13 @@ module _ (part : Part) (named : Client → ℕ) (well : StandsWell part) (h : Co
   mounted_connected mount = record { pulses = h.pulses; has = record { opened = h.has.opened; uses = h.has.uses }; waiters = record { none_foreign = h.waiters.none_foreign } }
 
   given_connected : (config : Configuration) (user : ℕ) (held : List OwnItem) (e : Step) → Gives Gave (client_given config user held part e)
-  given_connected config user held (Spawn of_user threads prio) = spawn_connected (ceiling_of config user) threads prio.0
+  given_connected config user held (Spawn of_user threads prio) = spawn_connected (limits_of config user) threads prio.0
   given_connected config user held (Exit proc) =
       gives_on _ (found (living (row_at part.processes proc.num)) WrongState) _ (λ process is. gives_done _ _ (exit_connected proc.num process (living-there (row_at part.processes proc.num) process (found-row _ _ process is))))
   given_connected config user held (Call thread asked) = call_connected config user thread asked
   given_connected config user held (TakeReply thread) = reply_connected thread
   given_connected config user held (TakePulse proc) = gives_on _ (found (living (row_at part.processes proc.num)) WrongState) _ (λ process is. gives_done _ _ (pulse_connected proc.num (first_pulse proc.num part.resources.events)))
-  given_connected config user held (SetPrio thread prio) = prio_connected (ceiling_of config user) thread prio.0
+  given_connected config user held (SetPrio thread prio) = prio_connected (limits_of config user).ceiling thread prio.0
   given_connected config user held (Interrupt thread) = gives_on _ (found (thread_at part thread.proc.num thread.tid) WrongState) _ (λ row is. gives_done _ _ (interrupt_connected thread row.calls row (found-row _ _ row is) row.state refl))
   given_connected config user held (Mount thread path manager) =
       gives_on _ (mount_by config user part thread path manager) _ (λ mount is. gives_done _ _ (quiet (record part { resources = with_mount mount part.resources }) (mounted_connected mount) [] (λ own. refl)))
@@ -254,10 +255,10 @@ pub record WellConnected (part : Part) (named : Client → ℕ) : Type 0 where
 pub connected_kept : IsKeptWith (λ user. WellConnected)
 connected_kept = record {
   fewer = λ user part named less few h. record { well = h.well; connected = fewer_connected part named less few h.connected };
-  client_step = λ config user held part e named h. record { well = well_kept.client_step config user held part e h.well; connected = client_connected part named h.well h.connected config user held e };
-  taking = λ user part done named h. record { well = well_kept.taking user part done h.well; connected = take_connected part done named h.connected };
-  serving = λ config user held part done moment named h. record { well = well_kept.serving config user held part done moment h.well; connected = serve_connected config user held part done moment named h.well h.connected };
-  settling = λ user before held after named h. record { well = well_kept.settling user before held after h.well; connected = settle_connected before held after named h.connected };
+  client_step = λ config user held part e named h. record { well = (well_kept config).client_step user held part e h.well; connected = client_connected part named h.well h.connected config user held e };
+  taking = λ user part done named h. record { well = take_well part done h.well; connected = take_connected part done named h.connected };
+  serving = λ config user held part done moment named h. record { well = (well_kept config).serving user held part done moment h.well; connected = serve_connected config user held part done moment named h.well h.connected };
+  settling = λ user before held after named h. record { well = settle_well before held after h.well; connected = settle_connected before held after named h.connected };
 }
 
 pub connected_boot : (config : Configuration) (user : ℕ) → WellConnected (boot_part config user) (λ own. 0)

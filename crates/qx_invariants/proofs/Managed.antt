@@ -5,7 +5,6 @@ use Rattle.std.specs.FinMap.{get}
 use Rattle.std.specs.List.{AllByRecursion}
 use Rattle.std.proofs.lemmas.List.Elements.{recursion_from_All}
 use Rattle.std.proofs.lemmas.Option.{same_Some}
-use Rattle.qx_types.specs.declared.limits.TheConstants.Limits.{INODES}
 use Rattle.qx_types.specs.declared.names.Manager.{Manager}
 use Rattle.qx_types.specs.declared.names.Manager.TheVariants.{Ram}
 use Rattle.qx_paths.specs.Mounts.{boot_mounts}
@@ -19,6 +18,7 @@ use Rattle.qx_machine.specs.Attributes.{root_attribute, top_inode}
 use Rattle.qx_machine.specs.Defaults.{is_own, without_block, without_unused}
 use Rattle.qx_machine.specs.Inodes.{Inodes, new_attribute}
 use Rattle.qx_machine.specs.Managers.{own_kind}
+use Rattle.qx_types.specs.UserLimits.{UserLimits}
 use Rattle.qx_machine.specs.Mounting.{new_resources, with_mount}
 use Rattle.qx_machine.specs.Names.{Key, Names, is_directory, root_key, under}
 use Rattle.qx_machine.specs.PipeManager.{filled}
@@ -184,7 +184,7 @@ empty-less which inode r = empty_cases (IsLess r) which inode r (λ is. same-les
 -- ---- what comes
 
 -- an inode comes where none is, with a path
-module _ (r : Resources) (all : Holds r) (h : HoldsKinds r) (inode : ℕ) (key : Key) (attribute : Attribute) (new : IsNew r.inodes.attributes INODES inode) where
+module _ (r : Resources) (all : Holds r) (h : HoldsKinds r) (inode : ℕ) (key : Key) (attribute : Attribute) (new : IsNew r.inodes.attributes r.inodes.most_inodes inode) where
   abbrev come : Resources
   come = with_named inode key attribute r
 
@@ -225,8 +225,8 @@ mount_kinds r all h mount may = record {
   apart = λ number other one two there also same. by one two number other (slice_get-last r.mounts mount number one there) (slice_get-last r.mounts mount other two also) same;
 }
   where
-    new : IsNew r.inodes.attributes INODES mount.root
-    new = inode_is_new r.inodes mount.root all.room.some_inodes may
+    new : IsNew r.inodes.attributes r.inodes.most_inodes mount.root
+    new = inode_is_new r.inodes mount.root all.room.some_inodes may.0
 
     free : (root : ℕ) → root ≡ mount.root → is_some (row_at r.inodes.attributes root) ≡ true → ⊥
     free root same some = let none : false ≡ true = ap is_some (sym new.free) ∙ (ap (λ n. is_some (row_at r.inodes.attributes n)) (sym same) ∙ some) in cc
@@ -302,10 +302,10 @@ kinds-keep (Abandons process) r may all fits h = kinds-less r _ (same-less _ _ r
 
 -- ---- at boot
 
-pub boot_kinds : (user : ℕ) (name : List ℕ) → HoldsKinds (new_resources user name)
-boot_kinds user name = record {
+pub boot_kinds : (limits : UserLimits) (user : ℕ) (name : List ℕ) → HoldsKinds (new_resources limits user name)
+boot_kinds limits user name = record {
   kinds = record {
-    named = λ number mount there path inode attribute leads is. ap (λ (a : Attribute). is_own (own_kind mount.manager) a.kind) (the_root user name inode attribute is).1;
+    named = λ number mount there path inode attribute leads is. ap (λ (a : Attribute). is_own (own_kind mount.manager) a.kind) (the_root limits user name inode attribute is).1;
     opened = λ number block attribute there is. let none : None ≡ Some block = sym (none_there number) ∙ there in absurd (cc);
   };
   apart = λ number other mount another there also same. ap (λ (m : MountPoint). m.manager) (sym (top number mount there) ∙ top other another also);

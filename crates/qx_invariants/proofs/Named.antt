@@ -5,7 +5,6 @@ use Rattle.std.specs.FinMap.{get, insert, remove}
 use Rattle.std.proofs.lemmas.Bool.{and_parts, cases_eq, eqb-true}
 use Rattle.std.proofs.lemmas.Bool.Decides.{nat_tests}
 use Rattle.std.proofs.lemmas.Option.{same_Some}
-use Rattle.qx_types.specs.declared.limits.TheConstants.Limits.{INODES}
 use Rattle.qx_machine.specs.declared.rows.Attribute.{Attribute}
 use Rattle.qx_machine.specs.declared.rows.Kind.{Kind}
 use Rattle.qx_machine.specs.declared.rows.Ocb.{Ocb}
@@ -92,7 +91,7 @@ module _ (r : Resources) (h : HasNames r) where
   }
 
   -- an inode comes with a link, and a path to it
-  come_names : (inode : ℕ) (key : Key) (attribute : Attribute) → attribute.links ≡ 1 → IsNew r.inodes.attributes INODES inode → get r.names key ≡ None → ((root : ℕ) → root_key root ≡ key → inode ≡ root) → HasNames (with_named inode key attribute r)
+  come_names : (inode : ℕ) (key : Key) (attribute : Attribute) → attribute.links ≡ 1 → IsNew r.inodes.attributes r.inodes.most_inodes inode → get r.names key ≡ None → ((root : ℕ) → root_key root ≡ key → inode ≡ root) → HasNames (with_named inode key attribute r)
   come_names inode key attribute links new missing rooted = record {
     leads = λ other m leads. elim (insert-cases r.names key inode other m leads) [
       | inl is ↦ subst (λ k. is_some (row_at (put_row r.inodes.attributes inode attribute) k) ≡ true) is.1 (ap is_some at)
@@ -255,7 +254,7 @@ free_root r h root free = by (get r.names (root_key root)) refl
 
 pub names-keep : (change : ResourceChange) (r : Resources) → MayHappen change r → HasRoom r → HasNames r → HasNames (with_change change r)
 names-keep (Mounts mount) r may room h =
-    let new = inode_is_new r.inodes mount.root room.some_inodes may in
+    let new = inode_is_new r.inodes mount.root room.some_inodes may.0 in
     let more = come_names r h mount.root (root_key mount.root) (root_attribute r.user) refl new (free_root r h mount.root new.free) (λ root same. ap (λ (key : Key). key.0) (sym same)) in
     record { leads = more.leads; single = more.single; roots = more.roots; links = more.links; used = more.used; opened = more.opened }
 names-keep (Comes inode directory name kind mode moment) r may room h =

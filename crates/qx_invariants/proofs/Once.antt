@@ -5,7 +5,9 @@ use Rattle.std.specs.List.{count_by}
 use Rattle.std.proofs.lemmas.Bool.{cases_Bool, cases_eq, cond_both, eqb-true, ne_eqb}
 use Rattle.std.proofs.lemmas.List.Folds.{sum_by-replicate}
 use Rattle.std.proofs.lemmas.Option.{same_Some}
-use Rattle.qx_types.specs.Configuration.{Configuration, ceiling_of, name_bytes}
+use Rattle.qx_types.specs.Configuration.{Configuration, limits_of, name_bytes}
+use Rattle.qx_types.proofs.LimitLemmas.{limits_within}
+use Rattle.qx_types.specs.UserLimits.{UserLimits}
 use Rattle.qx_errno.specs.declared.Errno.{Errno}
 use Rattle.qx_errno.specs.declared.Errno.TheVariants.{EAGAIN, EINTR, EINVAL}
 use Rattle.qx_types.specs.declared.limits.TheConstants.Limits.{CALLS, INODES, PROCESSES, THREADS}
@@ -394,11 +396,11 @@ pub living-there : (row : Option Process) (process : Process) → living row ≡
 living-there None process is = absurd (cc)
 living-there (Some there) process is = cond_both (has_ended there) None (Some there) (λ row. row ≡ Some process → Some there ≡ Some process) (λ ended none. absurd (cc)) (λ lives some. some) is
 
-pub spawn_free : (ceiling : ℕ) (part : Part) (threads prio : ℕ) → Gives (λ number. row_at part.processes number ≡ None) (spawn_number ceiling part.processes threads prio)
-spawn_free ceiling part threads prio =
+pub spawn_free : (limits : UserLimits) (part : Part) (threads prio : ℕ) → Gives (λ number. row_at part.processes number ≡ None) (spawn_number limits part.processes threads prio)
+spawn_free limits part threads prio =
     gives_on _ (need (nat_le 1 threads && nat_le threads THREADS) (Refused EINVAL)) _ (λ valid is_valid.
-    gives_on _ (may_give ceiling prio) _ (λ allowed is_allowed.
-    gives_on _ (need (nat_le (lowest_from 1 part.processes) PROCESSES) (Refused EAGAIN)) _ (λ free is_free. gives_done _ _ (lowest_from_free 1 part.processes))))
+    gives_on _ (may_give limits.ceiling prio) _ (λ allowed is_allowed.
+    gives_on _ (need (nat_le (lowest_from 1 part.processes) limits.processes) (Refused EAGAIN)) _ (λ free is_free. gives_done _ _ (lowest_from_free 1 part.processes))))
 
 module _ (part : Part) (h : WaitsOnce part) where
   abbrev Gave : ClientStep → Type 0
@@ -412,9 +414,9 @@ module _ (part : Part) (h : WaitsOnce part) where
   row_once : (number thread : ℕ) (change : ThreadRow → ThreadRow) (f : Process → Process) → ChangesThread thread change f → (row : ThreadRow) → thread_at part number thread ≡ Some row → count_state_waiting (change row).state ≡ count_state_waiting row.state → WaitsOnce (with_process number f part)
   row_once number thread change f changes row there same = thread_once number thread change f changes (λ other is. subst (λ (r : ThreadRow). count_state_waiting (change r).state ≡ count_state_waiting r.state) (same_Some _ _ (sym there ∙ is)) same)
 
-  spawn_once : (ceiling threads prio : ℕ) → Gives Gave (spawn ceiling part threads prio)
-  spawn_once ceiling threads prio =
-      gives_by (λ number. row_at part.processes number ≡ None) _ (spawn_number ceiling part.processes threads prio) _ (spawn_free ceiling part threads prio) (λ number free.
+  spawn_once : (limits : UserLimits) (threads prio : ℕ) → Gives Gave (spawn limits part threads prio)
+  spawn_once limits threads prio =
+      gives_by (λ number. row_at part.processes number ≡ None) _ (spawn_number limits part.processes threads prio) _ (spawn_free limits part threads prio) (λ number free.
       gives_done _ _ (same_once part (record part { processes = put_row part.processes number (new_process threads prio) }) h refl (after_spawn part number threads prio free) (spawn_ended part number threads prio free)))
 
   call_once : (config : Configuration) (user : ℕ) (thread : Thread) (asked : Request) → Gives Gave (call config user part thread asked)
@@ -497,13 +499,13 @@ module _ (part : Part) (h : WaitsOnce part) where
     }
 
   client_given-once : (config : Configuration) (user : ℕ) (held : List OwnItem) (e : Step) → Gives Gave (client_given config user held part e)
-  client_given-once config user held (Spawn of_user threads prio) = spawn_once (ceiling_of config user) threads prio.0
+  client_given-once config user held (Spawn of_user threads prio) = spawn_once (limits_of config user) threads prio.0
   client_given-once config user held (Call thread asked) = call_once config user thread asked
   client_given-once config user held (TakeReply thread) = reply_once thread
   client_given-once config user held (Exit proc) =
       gives_on _ (found (living (row_at part.processes proc.num)) WrongState) _ (λ process is. gives_done _ _ (exit_once proc.num process (living-there (row_at part.processes proc.num) process (found-row _ _ process is))))
   client_given-once config user held (TakePulse proc) = gives_on _ (found (living (row_at part.processes proc.num)) WrongState) _ (λ process is. gives_done _ _ (pulse_taken-once proc.num (first_pulse proc.num part.resources.events)))
-  client_given-once config user held (SetPrio thread prio) = prio_once (ceiling_of config user) thread prio.0
+  client_given-once config user held (SetPrio thread prio) = prio_once (limits_of config user).ceiling thread prio.0
   client_given-once config user held (Interrupt thread) = gives_on _ (found (thread_at part thread.proc.num thread.tid) WrongState) _ (λ row is. gives_done _ _ (interrupt_in-once thread row.calls row (found-row _ _ row is) row.state refl))
   client_given-once config user held (Mount thread path manager) =
       gives_on _ (mount_by config user part thread path manager) _ (λ mount is. gives_done _ _ (same_once part (record part { resources = with_mount mount part.resources }) h refl (λ p t. refl) (λ p. refl)))
@@ -515,12 +517,18 @@ module _ (part : Part) (h : WaitsOnce part) where
 
 -- ---- whatever steps are taken
 
-pub stands_kept : IsKept (λ user. Stands)
-stands_kept = record {
-  client_step = λ config user held part e h. record { holds = client-keeps Holds holds-keep config user held part e h.holds; waits_once = client_once part h.waits_once config user held e };
-  taking = λ user part own h. record { holds = take-keeps Holds holds-keep part own h.holds; waits_once = take_once part own h.waits_once };
-  serving = λ config user held part own moment h. record { holds = serve-keeps Holds holds-keep config user held part own moment h.holds; waits_once = serve_once config user held part own moment h };
-  settling = λ user before held after h. record { holds = settle-keeps Holds holds-keep before held after h.holds; waits_once = settle_once before held after h.waits_once };
+pub take_stands : (part : Part) (own : OwnItem) → Stands part → Stands (take part own)
+take_stands part own h = record { holds = take-keeps Holds holds-keep part own h.holds; waits_once = take_once part own h.waits_once }
+
+pub settle_stands : (before : Part) (held : List OwnItem) (after : Part) → Stands after → Stands (settle_part before held after)
+settle_stands before held after h = record { holds = settle-keeps Holds holds-keep before held after h.holds; waits_once = settle_once before held after h.waits_once }
+
+pub stands_kept : (config : Configuration) → IsKept config (λ user. Stands)
+stands_kept config = record {
+  client_step = λ user held part e h. record { holds = client-keeps Holds holds-keep config user held part e h.holds; waits_once = client_once part h.waits_once config user held e };
+  taking = λ user. take_stands;
+  serving = λ user held part own moment h. record { holds = serve-keeps Holds holds-keep config user held part own moment h.holds; waits_once = serve_once config user held part own moment h };
+  settling = λ user. settle_stands;
 }
 
 pub none_wait : (which : WaitingCall → Bool) (places : ℕ) → count_waiting which (replicate places None) ≡ 0
@@ -533,7 +541,7 @@ nobody_there processes is (suc p) t = ap (λ rows. waits (thread_of t (row_at ro
 pub stands_boot : (config : Configuration) (user : ℕ) → Stands (boot_part config user)
 unfolding boot_part
 stands_boot config user = record {
-  holds = boot_holds user (name_bytes config user);
+  holds = boot_holds (limits_of config user) (limits_within config user) user (name_bytes config user);
   waits_once = record {
     once = λ p t. none_wait (unless_gone (is_of p t)) (INODES + 1) ∙ sym (nobody_there (None ∷ []) refl p t);
     few = λ p t. let none = none_wait (is_of p t) (INODES + 1) in omega (arith, none);

@@ -1,19 +1,22 @@
 -- What holds of each user's resources in each world that a run reaches.
-use Rattle.std.proofs.Common.{◌≡◌, ℕ, ◌+◌, ◌-◌, ◌<◌, ◌≤◌, ◌==◌, ◌&&◌, not, true, List, [], ◌∷◌, length, arith, refl, sym, ap, subst}
-use Rattle.std.specs.Prelude.{All, ◌||◌, nat_le, Some}
+use Rattle.std.proofs.Common.{◌≡◌, ℕ, ◌+◌, ◌-◌, ◌<◌, ◌≤◌, ◌==◌, ◌&&◌, not, true, List, [], ◌∷◌, length, arith, refl, sym, ap, subst, ◌∙◌}
+use Rattle.std.specs.Prelude.{All, ◌||◌, nat_le, sum_by, Some}
 use Rattle.std.specs.List.{AllByRecursion, list_all}
 use Rattle.std.proofs.lemmas.Bool.{and_parts, cond_both, leb-true}
 use Rattle.std.proofs.lemmas.Bool.Decides.{nat_tests}
 use Rattle.std.proofs.lemmas.List.Elements.{All-filter, All-from_recursion, recursion_from_All}
-use Rattle.qx_types.specs.declared.limits.TheConstants.Limits.{COMPONENT, TRANSFER}
+use Rattle.qx_types.specs.declared.limits.TheConstants.Limits.{COMPONENT, FIRST_CONNECTION, TRANSFER}
 use Rattle.qx_wire.specs.Rests.{is_component, is_dots, is_name_byte}
 use Rattle.qx_machine.specs.Listings.{HasSizedNames, IsZeroFree}
 use Rattle.qx_machine.specs.Names.{names_behind, fitting, listed, listing, names_in}
 use Rattle.qx_machine.specs.Resources.{Resources}
-use Rattle.qx_invariants.specs.Holds.{HasClients, HasConnections, HasFewConnections, HasKinds, HasOwnWaiters, HasTree, HasContents, HasMounts, HasOpenWaiters, HasRoom, HasSettledPipes, HasUses, HoldsInRuns, HoldsOfParts, IsOwnedBy}
+use Rattle.qx_invariants.specs.Holds.{HasClients, HasConnections, HasFewConnections, HasFewProcesses, HasFewServers, HasKinds, HasOwnWaiters, HasTree, HasContents, HasMounts, HasOpenWaiters, HasRoom, HasSettledPipes, HasUses, HoldsInRuns, HoldsOfParts, IsOwnedBy}
 use Rattle.qx_invariants.proofs.Keys.{all_names}
-use Rattle.qx_types.specs.Configuration.{Configuration, name_bytes}
+use Rattle.qx_types.specs.Configuration.{Configuration, limits_of, name_bytes}
+use Rattle.qx_types.proofs.LimitLemmas.{limits_within}
 use Rattle.qx_types.specs.declared.step.Step.{Step}
+use Rattle.qx_types.specs.UserLimits.{UserLimits}
+use Rattle.qx_machine.specs.Calls.{server_count}
 use Rattle.qx_machine.specs.Mounting.{new_resources}
 use Rattle.qx_machine.specs.Machine.{own_held}
 use Rattle.qx_machine.specs.Parts.{Part}
@@ -26,8 +29,9 @@ use Rattle.qx_invariants.specs.Changes.{Become, ResourceChange, MayHappen, with_
 use Rattle.qx_invariants.proofs.Steps.{client-keeps, serve-keeps, settle-keeps, take-keeps, IsKept, run-holds}
 use Rattle.qx_machine.specs.Users.{boot_part}
 use Rattle.qx_invariants.proofs.Together.{Holds, boot_holds, boot_owned}
-use Rattle.qx_invariants.proofs.Rooms.{owner-keeps, room-keeps}
+use Rattle.qx_invariants.proofs.Rooms.{limits_stay, owner-keeps, room-keeps}
 use Rattle.qx_invariants.proofs.Clients.{StandsWell, well_boot, well_kept}
+use Rattle.qx_invariants.proofs.Few.{StandsFew, few_boot, few_kept}
 use Rattle.qx_invariants.proofs.Once.{Stands}
 use Rattle.qx_invariants.proofs.Numbers.{few_connections}
 use Rattle.qx_invariants.proofs.Items.{pulses, run-holds-with}
@@ -85,25 +89,32 @@ become-keeps start change r may h = record {
 }
 
 -- a property of the resources that each change keeps
-resources_kept : (K : ℕ → Resources → Type 0) → ((user : ℕ) (change : ResourceChange) (r : Resources) → MayHappen change r → K user r → K user (with_change change r)) → IsKept (λ user part. K user part.resources)
-resources_kept K keeps = record {
-  client_step = λ config user held part e h. client-keeps (K user) (keeps user) config user held part e h;
+resources_kept : (config : Configuration) (K : ℕ → Resources → Type 0) → ((user : ℕ) (change : ResourceChange) (r : Resources) → MayHappen change r → K user r → K user (with_change change r)) → IsKept config (λ user part. K user part.resources)
+resources_kept config K keeps = record {
+  client_step = λ user held part e h. client-keeps (K user) (keeps user) config user held part e h;
   taking = λ user part own h. take-keeps (K user) (keeps user) part own h;
-  serving = λ config user held part own moment h. serve-keeps (K user) (keeps user) config user held part own moment h;
+  serving = λ user held part own moment h. serve-keeps (K user) (keeps user) config user held part own moment h;
   settling = λ user before held after h. settle-keeps (K user) (keeps user) before held after h;
 }
 
-pub run_becomes : (config : Configuration) (steps : List Step) (user : ℕ) (part : Part) → row_at (run config steps).world.parts user ≡ Some part → Become (new_resources user (name_bytes config user)) part.resources
+pub run_becomes : (config : Configuration) (steps : List Step) (user : ℕ) (part : Part) → row_at (run config steps).world.parts user ≡ Some part → Become (new_resources (limits_of config user) user (name_bytes config user)) part.resources
 unfolding boot_part
 run_becomes config steps =
-    run-holds (λ user part. Become (new_resources user (name_bytes config user)) part.resources)
-    (resources_kept (λ user. Become (new_resources user (name_bytes config user))) (λ user. become-keeps (new_resources user (name_bytes config user)))) config
+    run-holds config (λ user part. Become (new_resources (limits_of config user) user (name_bytes config user)) part.resources)
+    (resources_kept config (λ user. Become (new_resources (limits_of config user) user (name_bytes config user))) (λ user. become-keeps (new_resources (limits_of config user) user (name_bytes config user))))
     (λ user. record { changes = []; may = tt; are = refl }) steps
+
+pub run_limits : (config : Configuration) (steps : List Step) (user : ℕ) (part : Part) → row_at (run config steps).world.parts user ≡ Some part → part.resources.limits ≡ limits_of config user
+unfolding boot_part
+run_limits config steps =
+    run-holds config (λ user part. part.resources.limits ≡ limits_of config user)
+    (resources_kept config (λ user r. r.limits ≡ limits_of config user) (λ user change r may same. limits_stay change r ∙ same))
+    (λ user. refl) steps
 
 -- ---- how things stand
 
 pub run_well : HoldsOfParts StandsWell
-run_well config steps = run-holds (λ user. StandsWell) well_kept config (well_boot config) steps
+run_well config steps = run-holds config (λ user. StandsWell) (well_kept config) (well_boot config) steps
 
 pub run_stands : HoldsOfParts Stands
 run_stands config steps user part there = (run_well config steps user part there).stands
@@ -126,15 +137,30 @@ run_uses config steps user part there = (run_holds config steps user part there)
 pub run_owned : (config : Configuration) (steps : List Step) (user : ℕ) (part : Part) → row_at (run config steps).world.parts user ≡ Some part → IsOwnedBy user part.resources
 unfolding boot_part
 run_owned config steps user part there =
-    (run-holds (λ user part. HasRoom part.resources × IsOwnedBy user part.resources)
-    (resources_kept (λ user r. HasRoom r × IsOwnedBy user r) (λ user change r may h. (room-keeps change r may h.0, owner-keeps user change r may h.0 h.1))) config
-    (λ user. ((boot_holds user (name_bytes config user)).room, boot_owned user (name_bytes config user))) steps user part there).1
+    (run-holds config (λ user part. HasRoom part.resources × IsOwnedBy user part.resources)
+    (resources_kept config (λ user r. HasRoom r × IsOwnedBy user r) (λ user change r may h. (room-keeps change r may h.0, owner-keeps user change r may h.0 h.1)))
+    (λ user. ((boot_holds (limits_of config user) (limits_within config user) user (name_bytes config user)).room, boot_owned (limits_of config user) user (name_bytes config user))) steps user part there).1
 
 pub run_settled : HoldsInRuns HasSettledPipes
 run_settled config steps user part there = (run_holds config steps user part there).settled
 
 pub run_mounts : HoldsInRuns HasMounts
 run_mounts config steps user part there = (run_holds config steps user part there).mounts
+
+-- ---- how much a user holds
+
+run_few : (config : Configuration) (steps : List Step) (user : ℕ) (part : Part) → row_at (run config steps).world.parts user ≡ Some part → StandsFew config user part
+run_few config steps = run-holds config (StandsFew config) (few_kept config) (few_boot config) steps
+
+pub run_few_processes : HoldsOfParts HasFewProcesses
+run_few_processes config steps user part there =
+    let few = (run_few config steps user part there).few in
+    record { numbered = λ number process at. subst (λ (l : UserLimits). (1 ≤ number) × (number ≤ l.processes)) (sym (run_limits config steps user part there)) (few.numbered number process at) }
+
+pub run_few_servers : HoldsOfParts HasFewServers
+run_few_servers config steps user part there =
+    let few = (run_few config steps user part there).few in
+    record { few = λ manager. subst (λ (l : UserLimits). sum_by (server_count manager) part.processes ≤ l.servers) (sym (run_limits config steps user part there)) (few.servers manager) }
 
 -- ---- calls that wait
 
@@ -150,7 +176,12 @@ pub run_connections : HoldsOfParts HasConnections
 run_connections config steps user part there = (run_connected config steps user part there).connected.has
 
 pub run_few_connections : HoldsOfParts HasFewConnections
-run_few_connections config steps user part there = few_connections part (λ number process at. ((run_well config steps user part there).clientele.sound number process at).numbered) (run_connections config steps user part there)
+run_few_connections config steps user part there =
+    let stands = run_few config steps user part there in
+    let limits = run_limits config steps user part there in
+    few_connections part
+    (λ number process at coid connection is. ((stands.well.clientele.sound number process at).numbered coid connection is, subst (λ (l : UserLimits). coid < FIRST_CONNECTION + l.connections) (sym limits) (stands.few.connections number process at coid connection is)))
+    (run_connections config steps user part there)
 
 pub run_own_waiters : HoldsInRuns HasOwnWaiters
 run_own_waiters config steps user part there = (run_connected config steps user part there).connected.waiters

@@ -1,16 +1,18 @@
 -- Inodes and open control blocks have their numbers and a place each for what is in them, each inode of a user is owned by that user, and connections have each
 -- open control block, whatever happens.
-use Rattle.std.proofs.Common.{◌≡◌, inl, inr, ℕ, ◌+◌, ◌<◌, ◌≤◌, List, length, ◌∙◌, arith, refl, sym, ap, subst}
-use Rattle.std.specs.Prelude.{Option, Some, None, option_map, slice_set}
+use Rattle.std.proofs.Common.{◌≡◌, inl, inr, ℕ, ◌+◌, ◌<◌, ◌≤◌, List, [], ◌∷◌, length, length-append, ◌∙◌, arith, refl, sym, ap, subst}
+use Rattle.std.specs.Prelude.{Ok, Option, Some, None, option_map, slice_set}
 use Rattle.std.proofs.Math.ListN.{length-set}
 use Rattle.std.proofs.lemmas.List.{length-map}
-use Rattle.qx_types.specs.declared.limits.TheConstants.Limits.{BLOCKS, INODES}
+use Rattle.qx_types.specs.UserLimits.{AreLimits, UserLimits}
+use Rattle.qx_types.specs.declared.limits.TheConstants.Limits.{INODES}
+use Rattle.qx_paths.specs.Prefixes.{MountPoint}
 use Rattle.qx_machine.specs.declared.rows.Kind.{Kind}
 use Rattle.qx_machine.specs.declared.rows.Ocb.{Ocb}
 use Rattle.qx_machine.specs.declared.rows.WaitingCall.{WaitingCall}
 use Rattle.qx_machine.specs.Clients.{with_abandoned}
 use Rattle.qx_machine.specs.Defaults.{without_unused, without_block}
-use Rattle.qx_machine.specs.Inodes.{Inodes, new_attribute}
+use Rattle.qx_machine.specs.Inodes.{Inodes, block_number, inode_number, new_attribute}
 use Rattle.qx_machine.specs.Pipes.{Pipe}
 use Rattle.qx_machine.specs.Resources.{Resources, resized}
 use Rattle.qx_isolation.specs.Rows.{put_row, row_at, with_row}
@@ -52,58 +54,120 @@ module _ {A : Type 0} (most : ℕ) (rows : List (Option A)) (h : AreNumbered mos
     some = let same = length-set rows number (option_map change (row_at rows number)) in let some = h.some in omega (arith, same, some);
   }
 
+-- the tables are of these limits, each of which is in its range, and no more is mounted than may be
+record AreBounded (inodes : Inodes) (mounts : List MountPoint) (limits : UserLimits) : Type 0 where
+  most_inodes : inodes.most_inodes ≡ limits.inodes
+  most_blocks : inodes.most_blocks ≡ limits.blocks
+  in_range : AreLimits limits
+  few : length mounts ≤ limits.mounts
+
 -- the parts of what is to be shown
 record Parts (r : Resources) : Type 0 where
-  inodes : AreNumbered INODES r.inodes.attributes
-  blocks : AreNumbered BLOCKS r.inodes.blocks
+  inodes : AreNumbered r.limits.inodes r.inodes.attributes
+  blocks : AreNumbered r.limits.blocks r.inodes.blocks
+  bounds : AreBounded r.inodes r.mounts r.limits
   files : length r.files ≡ INODES + 1
   pipes : length r.pipes ≡ INODES + 1
 
 parts : (r : Resources) → HasRoom r → Parts r
-parts r h = record { inodes = record { each = h.inodes; some = h.some_inodes }; blocks = record { each = h.blocks; some = h.some_blocks }; files = h.files; pipes = h.pipes }
+parts r h = record {
+  inodes = record { each = h.inodes; some = h.some_inodes };
+  blocks = record { each = h.blocks; some = h.some_blocks };
+  bounds = record { most_inodes = h.most_inodes; most_blocks = h.most_blocks; in_range = h.limits; few = h.mounts };
+  files = h.files;
+  pipes = h.pipes;
+}
 
 whole : (r : Resources) → Parts r → HasRoom r
-whole r h = record { inodes = h.inodes.each; some_inodes = h.inodes.some; blocks = h.blocks.each; some_blocks = h.blocks.some; files = h.files; pipes = h.pipes }
+whole r h = record {
+  inodes = h.inodes.each;
+  some_inodes = h.inodes.some;
+  blocks = h.blocks.each;
+  some_blocks = h.blocks.some;
+  most_inodes = h.bounds.most_inodes;
+  most_blocks = h.bounds.most_blocks;
+  limits = h.bounds.in_range;
+  mounts = h.bounds.few;
+  files = h.files;
+  pipes = h.pipes;
+}
 
-with_inodes : (r : Resources) (inodes : Inodes) → AreNumbered INODES inodes.attributes → AreNumbered BLOCKS inodes.blocks → Parts r → Parts (record r { inodes = inodes })
-with_inodes r inodes attributes blocks h = record { inodes = attributes; blocks = blocks; files = h.files; pipes = h.pipes }
+-- an inode's number is one of so many from 1
+pub few_inodes : (r : Resources) → HasRoom r → r.inodes.most_inodes ≤ INODES
+few_inodes r room = let same = room.most_inodes in let few = room.limits.inodes.1 in omega (arith, same, few)
+
+new_inode : (r : Resources) → Parts r → (number : ℕ) → inode_number r.inodes ≡ Ok number → IsNew r.inodes.attributes r.limits.inodes number
+new_inode r h number is = subst (λ most. IsNew r.inodes.attributes most number) h.bounds.most_inodes (inode_is_new r.inodes number h.inodes.some is)
+
+new_block : (r : Resources) → Parts r → (number : ℕ) → block_number r.inodes ≡ Ok number → IsNew r.inodes.blocks r.limits.blocks number
+new_block r h number is = subst (λ most. IsNew r.inodes.blocks most number) h.bounds.most_blocks (block_is_new r.inodes number h.blocks.some is)
+
+same_bounds : (inodes : Inodes) (mounts : List MountPoint) (limits : UserLimits) → AreBounded inodes mounts limits → (now : Inodes) → now.most_inodes ≡ inodes.most_inodes → now.most_blocks ≡ inodes.most_blocks → AreBounded now mounts limits
+same_bounds inodes mounts limits h now most_inodes most_blocks = record { most_inodes = most_inodes ∙ h.most_inodes; most_blocks = most_blocks ∙ h.most_blocks; in_range = h.in_range; few = h.few }
+
+with_inodes : (r : Resources) (inodes : Inodes) → inodes.most_inodes ≡ r.inodes.most_inodes → inodes.most_blocks ≡ r.inodes.most_blocks → AreNumbered r.limits.inodes inodes.attributes → AreNumbered r.limits.blocks inodes.blocks → Parts r → Parts (record r { inodes = inodes })
+with_inodes r inodes most_inodes most_blocks attributes blocks h = record { inodes = attributes; blocks = blocks; bounds = same_bounds r.inodes r.mounts r.limits h.bounds inodes most_inodes most_blocks; files = h.files; pipes = h.pipes }
+
+with_attributes : (r : Resources) (attributes : List (Option Attribute)) → AreNumbered r.limits.inodes attributes → Parts r → Parts (record r { inodes = record r.inodes { attributes = attributes } })
+with_attributes r attributes numbered h = with_inodes r (record r.inodes { attributes = attributes }) refl refl numbered h.blocks h
 
 with_files : (r : Resources) (inode : ℕ) (row : Option (List ℕ)) → Parts r → Parts (record r { files = slice_set r.files inode row })
-with_files r inode row h = record { inodes = h.inodes; blocks = h.blocks; files = length-set r.files inode row ∙ h.files; pipes = h.pipes }
+with_files r inode row h = record { inodes = h.inodes; blocks = h.blocks; bounds = h.bounds; files = length-set r.files inode row ∙ h.files; pipes = h.pipes }
 
 with_pipes : (r : Resources) (inode : ℕ) (row : Option (Pipe WaitingCall)) → Parts r → Parts (record r { pipes = slice_set r.pipes inode row })
-with_pipes r inode row h = record { inodes = h.inodes; blocks = h.blocks; files = h.files; pipes = length-set r.pipes inode row ∙ h.pipes }
+with_pipes r inode row h = record { inodes = h.inodes; blocks = h.blocks; bounds = h.bounds; files = h.files; pipes = length-set r.pipes inode row ∙ h.pipes }
 
 unused_parts : (own : Kind) (inode : ℕ) (r : Resources) → Parts r → Parts (without_unused own inode r)
 unused_parts own inode r h =
     unused_cases Parts own inode r
-    (λ gone. let less : Parts (freed inode r) = with_inodes r _ (freed_numbered INODES r.inodes.attributes h.inodes inode) h.blocks h in
+    (λ gone. let less : Parts (freed inode r) = with_attributes r _ (freed_numbered r.limits.inodes r.inodes.attributes h.inodes inode) h in
     content_cases Parts own inode (freed inode r) (λ is. with_files _ inode None less) (λ is. with_pipes _ inode None less) (λ is. less)) (λ stays. h)
+
+changed_parts : (r : Resources) (inode : ℕ) (change : Attribute → Attribute) → Parts r → Parts (with_changed inode change r)
+changed_parts r inode change h = with_attributes r _ (changed_numbered r.limits.inodes r.inodes.attributes h.inodes inode change) h
 
 parts-keep : (change : ResourceChange) (r : Resources) → MayHappen change r → Parts r → Parts (with_change change r)
 parts-keep (Mounts mount) r may h = record {
-  inodes = put_numbered INODES r.inodes.attributes h.inodes mount.root _ (inode_is_new r.inodes mount.root h.inodes.some may);
+  inodes = put_numbered r.limits.inodes r.inodes.attributes h.inodes mount.root _ (new_inode r h mount.root may.0);
   blocks = h.blocks;
+  bounds = record {
+    most_inodes = h.bounds.most_inodes;
+    most_blocks = h.bounds.most_blocks;
+    in_range = h.bounds.in_range;
+    few = let longer = length-append r.mounts (record { prefix = mount.prefix; manager = mount.manager; root = mount.root } ∷ []) in let fewer = may.1 in omega (arith, longer, fewer);
+  };
   files = h.files;
   pipes = h.pipes;
 }
 parts-keep (Comes inode directory name kind mode moment) r may h =
-    let more : Parts _ = record { inodes = put_numbered INODES r.inodes.attributes h.inodes inode _ (inode_is_new r.inodes inode h.inodes.some may.0); blocks = h.blocks; files = h.files; pipes = h.pipes } in
-    empty_cases Parts kind inode _ (λ is. with_files _ inode _ more) (λ is. with_pipes _ inode _ more) (λ is. more)
-parts-keep (Touches inode mode mtime ctime) r may h = with_inodes r _ (changed_numbered INODES r.inodes.attributes h.inodes inode _) h.blocks h
-parts-keep (Opens number block at) r may h = with_inodes r _ h.inodes (put_numbered BLOCKS r.inodes.blocks h.blocks number block (block_is_new r.inodes number h.blocks.some may.0)) h
-parts-keep (Moves number move) r may h = with_inodes r _ h.inodes (changed_numbered BLOCKS r.inodes.blocks h.blocks number (moved move)) h
-parts-keep (Writes inode moment bytes) r may h = with_files _ inode _ (with_inodes r _ (changed_numbered INODES r.inodes.attributes h.inodes inode _) h.blocks h)
-parts-keep (Fills inode moment after came) r may h = with_pipes _ inode _ (with_inodes r _ (changed_numbered INODES r.inodes.attributes h.inodes inode _) h.blocks h)
+    let more : Parts _ = record { inodes = put_numbered r.limits.inodes r.inodes.attributes h.inodes inode _ (new_inode r h inode may.0); blocks = h.blocks; bounds = same_bounds r.inodes r.mounts r.limits h.bounds _ refl refl; files = h.files; pipes = h.pipes } in
+    empty_cases Parts kind inode _ (λ is. with_files _ inode _ more) (λ device. with_pipes _ inode _ more) (λ is. more)
+parts-keep (Touches inode mode mtime ctime) r may h = changed_parts r inode (touched mode mtime ctime) h
+parts-keep (Opens number block at) r may h = with_inodes r _ refl refl h.inodes (put_numbered r.limits.blocks r.inodes.blocks h.blocks number block (new_block r h number may.0)) h
+parts-keep (Moves number move) r may h = with_inodes r _ refl refl h.inodes (changed_numbered r.limits.blocks r.inodes.blocks h.blocks number (moved move)) h
+parts-keep (Writes inode moment bytes) r may h = with_files _ inode _ (changed_parts r inode (resized (length bytes) moment) h)
+parts-keep (Fills inode moment after came) r may h = with_pipes _ inode _ (changed_parts r inode (filled moment after) h)
 parts-keep (Unlinks own directory name inode mtime ctime) r may h =
-    let with_names = with_inodes r (with_changed inode (without_link mtime ctime) r).inodes (changed_numbered INODES r.inodes.attributes h.inodes inode _) h.blocks h in
-    unused_parts own inode _ (record { inodes = with_names.inodes; blocks = with_names.blocks; files = with_names.files; pipes = with_names.pipes })
-parts-keep (Closes own number block parting) r may h = unused_parts own block.inode _ (with_inodes r _ h.inodes (freed_numbered BLOCKS r.inodes.blocks h.blocks number) h)
-parts-keep (Notifies events) r may h = record { inodes = h.inodes; blocks = h.blocks; files = h.files; pipes = h.pipes }
-parts-keep (Abandons process) r may h = record { inodes = h.inodes; blocks = h.blocks; files = h.files; pipes = length-map r.pipes (option_map (with_abandoned process)) ∙ h.pipes }
+    let with_names = changed_parts r inode (without_link mtime ctime) h in
+    unused_parts own inode _ (record { inodes = with_names.inodes; blocks = with_names.blocks; bounds = with_names.bounds; files = with_names.files; pipes = with_names.pipes })
+parts-keep (Closes own number block parting) r may h = unused_parts own block.inode _ (with_inodes r _ refl refl h.inodes (freed_numbered r.limits.blocks r.inodes.blocks h.blocks number) h)
+parts-keep (Notifies events) r may h = record { inodes = h.inodes; blocks = h.blocks; bounds = h.bounds; files = h.files; pipes = h.pipes }
+parts-keep (Abandons process) r may h = record { inodes = h.inodes; blocks = h.blocks; bounds = h.bounds; files = h.files; pipes = length-map r.pipes (option_map (with_abandoned process)) ∙ h.pipes }
 
 pub room-keeps : (change : ResourceChange) (r : Resources) → MayHappen change r → HasRoom r → HasRoom (with_change change r)
 room-keeps change r may h = whole (with_change change r) (parts-keep change r may (parts r h))
+
+-- ---- limits
+
+-- they stay as they are
+unused_same : (own : Kind) (inode : ℕ) (r : Resources) → (without_unused own inode r).limits ≡ r.limits
+unused_same own inode r = unused_cases (λ (s : Resources). s.limits ≡ r.limits) own inode r (λ gone. content_cases (λ (s : Resources). s.limits ≡ r.limits) own inode (freed inode r) (λ is. refl) (λ is. refl) (λ is. refl)) (λ stays. refl)
+
+pub limits_stay : (change : ResourceChange) (r : Resources) → (with_change change r).limits ≡ r.limits
+limits_stay (Comes inode directory name kind mode moment) r = empty_cases (λ (s : Resources). s.limits ≡ r.limits) kind inode (with_named inode (under directory name) (new_attribute kind mode r.user moment) r) (λ is. refl) (λ device. refl) (λ is. refl)
+limits_stay (Unlinks own directory name inode mtime ctime) r = unused_same own inode (with_unlinked inode (under directory name) mtime ctime r)
+limits_stay (Closes own number block parting) r = unused_same own block.inode (without_block number r)
+limits_stay _ r = refl
 
 -- ---- owners
 
@@ -124,7 +188,7 @@ module _ (user : ℕ) where
           elim was.2 [ inl stays ↦ ap (λ (a : Attribute). a.owner) (sym stays.1) | inr is ↦ ap (λ (a : Attribute). a.owner) (sym is.1) ∙ same was.0 ] ∙ h.inodes m was.0 was.1;
     }
 
-    come_owner : (inode : ℕ) (attribute : Attribute) → attribute.owner ≡ r.user → IsNew r.inodes.attributes INODES inode → (now : Resources) → now.user ≡ r.user → now.inodes.attributes ≡ put_row r.inodes.attributes inode attribute → IsOwnedBy user now
+    come_owner : (inode : ℕ) (attribute : Attribute) → attribute.owner ≡ r.user → IsNew r.inodes.attributes r.inodes.most_inodes inode → (now : Resources) → now.user ≡ r.user → now.inodes.attributes ≡ put_row r.inodes.attributes inode attribute → IsOwnedBy user now
     come_owner inode attribute own new now same attributes = record {
       user = same ∙ h.user;
       inodes = λ m other there. elim (put_cases r.inodes.attributes inode attribute new.within m other (ap (λ rows. row_at rows m) (sym attributes) ∙ there)) [
@@ -141,7 +205,7 @@ module _ (user : ℕ) where
         (λ stays. h)
 
   pub owner-keeps : (change : ResourceChange) (r : Resources) → MayHappen change r → HasRoom r → IsOwnedBy user r → IsOwnedBy user (with_change change r)
-  owner-keeps (Mounts mount) r may room h = come_owner r h mount.root (root_attribute r.user) refl (inode_is_new r.inodes mount.root room.some_inodes may) _ refl refl
+  owner-keeps (Mounts mount) r may room h = come_owner r h mount.root (root_attribute r.user) refl (inode_is_new r.inodes mount.root room.some_inodes may.0) _ refl refl
   owner-keeps (Comes inode directory name which mode moment) r may room h =
       let named = with_named inode (under directory name) (new_attribute which mode r.user moment) r in
       let more = come_owner r h inode (new_attribute which mode r.user moment) refl (inode_is_new r.inodes inode room.some_inodes may.0) named refl refl in

@@ -7,7 +7,6 @@ use Rattle.std.proofs.lemmas.Option.{same_Some}
 use Rattle.qx_errno.specs.declared.Errno.{Errno}
 use Rattle.qx_errno.specs.declared.Errno.TheVariants.{ENFILE, ENOSPC}
 use Rattle.qx_devices.specs.declared.Device.{Device}
-use Rattle.qx_types.specs.declared.limits.TheConstants.Limits.{BLOCKS, INODES}
 use Rattle.qx_machine.specs.declared.rows.Kind.{Kind}
 use Rattle.qx_machine.specs.declared.rows.Kind.TheVariants as kind
 use Rattle.qx_machine.specs.declared.rows.Attribute.{Attribute}
@@ -110,11 +109,11 @@ module _ {A : Type 0} (rows : List (Option A)) (most number : ℕ) (some : 0 < l
           let same : lowest_from 1 rows ≡ number = cc in
           subst (IsNew rows most) same (record { free = lowest_from_free 1 rows; from = omega arith; most_is = leb-true (lowest_from 1 rows) most e; within = lowest_within rows some })
 
-pub inode_is_new : (inodes : Inodes) (number : ℕ) → 0 < length inodes.attributes → inode_number inodes ≡ Ok number → IsNew inodes.attributes INODES number
-inode_is_new inodes number some is = new_number inodes.attributes INODES number some ENOSPC is
+pub inode_is_new : (inodes : Inodes) (number : ℕ) → 0 < length inodes.attributes → inode_number inodes ≡ Ok number → IsNew inodes.attributes inodes.most_inodes number
+inode_is_new inodes number some is = new_number inodes.attributes inodes.most_inodes number some ENOSPC is
 
-pub block_is_new : (inodes : Inodes) (number : ℕ) → 0 < length inodes.blocks → block_number inodes ≡ Ok number → IsNew inodes.blocks BLOCKS number
-block_is_new inodes number some is = new_number inodes.blocks BLOCKS number some ENFILE is
+pub block_is_new : (inodes : Inodes) (number : ℕ) → 0 < length inodes.blocks → block_number inodes ≡ Ok number → IsNew inodes.blocks inodes.most_blocks number
+block_is_new inodes number some is = new_number inodes.blocks inodes.most_blocks number some ENFILE is
 
 -- ---- how many open control blocks an inode has
 

@@ -1,12 +1,12 @@
 -- What stands for a message that is not served yet: the mount to which it was sent, and the connection that its call made, whatever becomes of its process.
-use Rattle.std.proofs.Common.{◌≡◌, ◌≢◌, ◌⊎◌, inl, inr, ℕ, zero, suc, ◌≤◌, List, [], ◌∷◌, ◌++◌, drop, length, length-drop, refl, sym, ap, ◌∙◌, subst, arith}
-use Rattle.std.specs.Prelude.{Option, Some, None, Result, Ok, Err, nat_le, option_map, slice_get, take, replicate}
-use Rattle.std.proofs.lemmas.Bool.{cases_eq, leb-true}
+use Rattle.std.proofs.Common.{◌≡◌, ◌≢◌, ◌⊎◌, inl, inr, ℕ, zero, suc, ◌+◌, ◌≤◌, List, [], ◌∷◌, ◌++◌, drop, length, length-drop, refl, sym, ap, ◌∙◌, subst, arith}
+use Rattle.std.specs.Prelude.{Option, Some, None, Result, Ok, Err, nat_lt, option_map, slice_get, take, replicate}
+use Rattle.std.proofs.lemmas.Bool.{cases_eq}
 use Rattle.std.proofs.lemmas.Option.{same_Some}
-use Rattle.qx_types.specs.Configuration.{Configuration, name_bytes}
+use Rattle.qx_types.specs.Configuration.{Configuration, limits_of, name_bytes}
 use Rattle.qx_errno.specs.declared.Errno.{Errno}
 use Rattle.qx_errno.specs.declared.Errno.TheVariants.{EAGAIN, EMFILE}
-use Rattle.qx_types.specs.declared.limits.TheConstants.Limits.{FIRST_CONNECTION, LAST_CONNECTION}
+use Rattle.qx_types.specs.declared.limits.TheConstants.Limits.{FIRST_CONNECTION}
 use Rattle.qx_types.specs.declared.names.Coid.{Coid}
 use Rattle.qx_types.specs.declared.outcome.Outcome.TheVariants.{Refused}
 use Rattle.qx_types.specs.declared.names.Prio.{Prio}
@@ -137,10 +137,9 @@ connection_quiet process now thread change changes silences number others apart 
 
 -- ---- a message is sent
 
--- the lowest free number of a connection, which is none above the last
-pub record IsFree (process : Process) (number : ℕ) : Type 0 where
-  pub lowest : number ≡ lowest_from FIRST_CONNECTION process.connections
-  pub few : number ≤ LAST_CONNECTION
+-- the lowest free number of a connection
+abbrev pub IsFree : Process → ℕ → Type 0
+IsFree process number = number ≡ lowest_from FIRST_CONNECTION process.connections
 
 -- where a call's message goes: to the root of a mount of its manager, and over the lowest free connection, or over none of its own
 pub record IsAddressed (mounts : List MountPoint) (process : Process) (target : Target) : Type 0 where
@@ -168,20 +167,18 @@ module _ (config : Configuration) (user : ℕ) (mounts : List MountPoint) (proce
       by names (Ok place) at = gives_done _ _ (record { number = place.number; mount = record { prefix = take place.depth names; manager = place.manager; root = place.root }; there = at place refl; manager_is = refl; root_is = refl })
       by names (Err error) at = gives_error _ _
 
-  place-addressed : (place : Resolved) (over : Over) → IsPlaced place → ((coid : Coid) → new_coid over ≡ Some coid → IsFree process coid.0) → Gives Addresses (to_place processes process place over prio)
+  place-addressed : (place : Resolved) (over : Over) → IsPlaced place → ((coid : Coid) → new_coid over ≡ Some coid → IsFree process coid.0) → Gives Addresses (to_place (limits_of config user).servers processes process place over prio)
   place-addressed place over placed free =
-      gives_on _ (need (can_serve processes process place.manager) (Refused EAGAIN)) _ (λ served is_served.
+      gives_on _ (need (can_serve (limits_of config user).servers processes process place.manager) (Refused EAGAIN)) _ (λ served is_served.
       gives_done _ _ (record { rooted = λ root at_root. subst (IsMounted mounts place.manager) (same_Some _ _ at_root) placed; free = free }))
 
-  free-gives : Gives (IsFree process) (free_connection process)
-  free-gives =
-      gives_on _ (need (nat_le (lowest_from FIRST_CONNECTION process.connections) LAST_CONNECTION) (Refused EMFILE)) _ (λ free is_free.
-      gives_done _ _ (record { lowest = refl; few = leb-true (lowest_from FIRST_CONNECTION process.connections) LAST_CONNECTION (need-true _ _ free is_free) }))
+  free-gives : (most : ℕ) → Gives (IsFree process) (free_connection most process)
+  free-gives most = gives_on _ (need (nat_lt (lowest_from FIRST_CONNECTION process.connections) (FIRST_CONNECTION + most)) (Refused EMFILE)) _ (λ free is_free. gives_done _ _ refl)
 
   pub addressed-gives : (address : Address) → Gives Addresses (target_at config user mounts processes process prio address)
   addressed-gives (Opens path) =
       gives_by IsPlaced _ (or_refused (place_of config user mounts path)) _ (place-gives path) (λ place placed.
-      gives_by (IsFree process) _ (free_connection process) _ free-gives (λ number free.
+      gives_by (IsFree process) _ (free_connection (limits_of config user).connections process) _ (free-gives (limits_of config user).connections) (λ number free.
       place-addressed place (New (record { 0 = number })) placed (λ coid over. subst (λ (c : Coid). IsFree process c.0) (same_Some _ _ over) free)))
   addressed-gives (Connects path) =
       gives_by IsPlaced _ (or_refused (place_of config user mounts path)) _ (place-gives path) (λ place placed. place-addressed place Side placed (λ coid over. absurd (cc)))
@@ -190,7 +187,7 @@ module _ (config : Configuration) (user : ℕ) (mounts : List MountPoint) (proce
       gives_done _ _ (record { rooted = λ root at_root. absurd (cc); free = λ other over. absurd (cc) }))
   addressed-gives (Duplicates coid) =
       gives_on _ (connection_at coid process) _ (λ connection there.
-      gives_by (IsFree process) _ (free_connection process) _ free-gives (λ number free.
+      gives_by (IsFree process) _ (free_connection (limits_of config user).connections process) _ (free-gives (limits_of config user).connections) (λ number free.
       gives_done _ _ (record { rooted = λ root at_root. absurd (cc); free = λ other over. subst (λ (c : Coid). IsFree process c.0) (same_Some _ _ over) free })))
 
 taken_few : {A : Type 0} (rows : List (Option A)) → taken_places rows ≤ length rows
@@ -215,7 +212,7 @@ module _ (mounts : List MountPoint) (process : Process) (h : Sends mounts proces
   ]
 
   free : (coid : Coid) → new_coid sent.target.over ≡ Some coid → row_at process.connections coid.0 ≡ None
-  free coid over = ap (row_at process.connections) (at.free coid over).lowest ∙ lowest_from_free FIRST_CONNECTION process.connections
+  free coid over = ap (row_at process.connections) (at.free coid over) ∙ lowest_from_free FIRST_CONNECTION process.connections
 
   -- a connection that is there is not the new one
   not_new : (m : ℕ) (connection : Connection) → row_at process.connections m ≡ Some connection → (coid : Coid) → new_coid sent.target.over ≡ Some coid → m ≢ coid.0

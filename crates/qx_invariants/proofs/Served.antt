@@ -55,7 +55,7 @@ in_use_there servers number is =
     by None used = used
     by (Some server) used = refl
 
-some-leaving : (row : Option ServerConnection) → is_some (option_map leaving row) ≡ is_some row
+pub some-leaving : (row : Option ServerConnection) → is_some (option_map leaving row) ≡ is_some row
 some-leaving None = refl
 some-leaving (Some server) = refl
 

@@ -4,7 +4,7 @@ use Rattle.std.specs.Prelude.{Option, Some, None, is_none, option_map, slice_set
 use Rattle.std.proofs.Math.ListN.{length-set}
 use Rattle.std.proofs.lemmas.Bool.{cases_eq, cond_both}
 use Rattle.std.proofs.lemmas.Option.{same_Some}
-use Rattle.qx_types.specs.declared.limits.TheConstants.Limits.{FIRST_CONNECTION, LAST_CONNECTION}
+use Rattle.qx_types.specs.declared.limits.TheConstants.Limits.{FIRST_CONNECTION}
 use Rattle.qx_types.specs.declared.names.Coid.{Coid}
 use Rattle.qx_types.specs.declared.outcome.Answer.{Answer}
 use Rattle.qx_paths.specs.Prefixes.{MountPoint}
@@ -26,9 +26,9 @@ use Rattle.qx_isolation.specs.Rows.{put_row, row_at, with_row}
 use Rattle.qx_isolation.proofs.Places.{row_at-set_other}
 use Rattle.qx_attr.proofs.TableLemmas.{longer_put, row-put}
 use Rattle.qx_iofunc.proofs.PlaceLemmas.{put_at}
-use Rattle.qx_invariants.specs.Holds.{AreNumbered, IsServer}
+use Rattle.qx_invariants.specs.Holds.{IsServer}
 use Rattle.qx_invariants.proofs.Balances.{same_threads}
-use Rattle.qx_invariants.proofs.Numbers.{changed_numbered, closed_numbered, none_numbered}
+use Rattle.qx_invariants.proofs.Numbers.{AreFromFirst, changed_numbered, closed_numbered, none_numbered}
 use Rattle.qx_invariants.proofs.Once.{over_changes}
 use Rattle.qx_invariants.proofs.Rows.{put_other, with_row-at, with_row-other, with_row-was}
 use Rattle.qx_invariants.proofs.Sending.{IsAddressed, IsFree, IsQuiet, Quietens, Sends, Silences, connection_quiet, lowest_few, new_sends, quiet_sends, sending_sends, target_in, target_of, thread_quiet, unopened_at}
@@ -42,8 +42,8 @@ pub record IsSound (mounts : List MountPoint) (process : Process) : Type 0 where
   pub sends : Sends mounts process
   -- numbers of connections begin with the first, unless it has ended
   pub room : has_ended process ≡ false → FIRST_CONNECTION ≤ length process.connections
-  -- none is numbered below the first or above the last
-  pub numbered : AreNumbered process.connections
+  -- none is numbered below the first
+  pub numbered : AreFromFirst process.connections
 
 abbrev pub AllSound : List MountPoint → List (Option Process) → Type 0
 AllSound mounts processes = (number : ℕ) (process : Process) → row_at processes number ≡ Some process → IsSound mounts process
@@ -146,7 +146,7 @@ module _ (mounts : List MountPoint) where
         let clash : Some block ≡ None = sym has ∙ ap (λ (c : Connection). c.block) alike in
         absurd (cc)
 
-    sound_by : (now : Process) → KeepsServers process now × IsServed now → now.threads ≡ with_row process.threads thread change → length process.connections ≤ length now.connections → AreNumbered now.connections → IsQuiet process now → KeepsServers process now × IsSound mounts now
+    sound_by : (now : Process) → KeepsServers process now × IsServed now → now.threads ≡ with_row process.threads thread change → length process.connections ≤ length now.connections → AreFromFirst now.connections → IsQuiet process now → KeepsServers process now × IsSound mounts now
     sound_by now servers threads longer numbered quiet = (
       servers.0,
       record {
@@ -163,7 +163,7 @@ module _ (mounts : List MountPoint) where
     -- its connections are the same
     unchanged_sound : (now : Process) → IsResettled process now → now.threads ≡ with_row process.threads thread change → now.connections ≡ process.connections → KeepsServers process now × IsSound mounts now
     unchanged_sound now again threads connections =
-        sound_by now (resettled now again) threads (let same = ap (λ (rows : List (Option Connection)). length rows) connections in omega (arith, same)) (subst AreNumbered (sym connections) h.numbered) (thread_quiet process now thread change threads connections quietens)
+        sound_by now (resettled now again) threads (let same = ap (λ (rows : List (Option Connection)). length rows) connections in omega (arith, same)) (subst AreFromFirst (sym connections) h.numbered) (thread_quiet process now thread change threads connections quietens)
 
     effect_sound : (given : Effect) → FitsEffect process target given → KeepsServers process (after_effect given (with_thread thread change process)) × IsSound mounts (after_effect given (with_thread thread change process))
     effect_sound effect.Keeps fits = unchanged_sound (with_thread thread change process) (thread_resettled process h.served thread change) refl refl
@@ -217,13 +217,13 @@ module _ (mounts : List MountPoint) where
     attaches (Existing coid) within = none_attached (Existing coid) refl refl
     attaches Side within = none_attached Side refl (cond_both {A = Process} (is_none (row_at process.sides thread)) _ _ (λ now. now.connections ≡ process.connections) (λ none. refl) (λ some. refl))
 
-    attached_numbered : (over : Over) → Attaches over → ((coid : Coid) → new_coid over ≡ Some coid → IsFree process coid.0) → AreNumbered (sending over).connections
+    attached_numbered : (over : Over) → Attaches over → ((coid : Coid) → new_coid over ≡ Some coid → IsFree process coid.0) → AreFromFirst (sending over).connections
     attached_numbered over attached free m connection is = by (new_coid over) refl
       where
-        by : (own : Option Coid) → new_coid over ≡ own → (FIRST_CONNECTION ≤ m) × (m ≤ LAST_CONNECTION)
+        by : (own : Option Coid) → new_coid over ≡ own → FIRST_CONNECTION ≤ m
         by None none = h.numbered m connection (sym (attached.others m (λ coid its. let clash : None ≡ Some coid = sym none ∙ its in absurd (cc))) ∙ is)
         by (Some coid) own = elim (cases_eq m coid.0) [
-          | inl same ↦ let lowest = (free coid own).lowest in let few = (free coid own).few in (omega (arith, same, lowest), omega (arith, same, few))
+          | inl same ↦ let lowest = free coid own in omega (arith, same, lowest)
           | inr apart ↦ h.numbered m connection (sym (attached.others m (λ other its same. apart (same ∙ ap (λ (c : Coid). c.0) (same_Some _ _ (sym its ∙ own))))) ∙ is)
         ]
 
@@ -231,7 +231,7 @@ module _ (mounts : List MountPoint) where
     queued_sound =
         let now : Process = with_queued thread sent process in
         let few : (coid : Coid) → new_coid sent.target.over ≡ Some coid → coid.0 ≤ length process.connections = λ coid is.
-        let free = (at.free coid is).lowest in let lowest = lowest_few FIRST_CONNECTION process.connections (h.room lives) in omega (arith, free, lowest) in
+        let free = at.free coid is in let lowest = lowest_few FIRST_CONNECTION process.connections (h.room lives) in omega (arith, free, lowest) in
         let attached = attaches sent.target.over few in
         let again : IsResettled process now = over_resettled process h.served thread (queued_thread sent) sent.target.over sent.target.manager in
         let threads : now.threads ≡ with_row process.threads thread (queued_thread sent) = over_changes thread (queued_thread sent) sent.target.over sent.target.manager process in (

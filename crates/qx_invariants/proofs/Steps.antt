@@ -1,10 +1,11 @@
 -- What steps do to a user's resources and to every user's part: a property that each change which may happen keeps, each step keeps in every user's part, and so each run.
-use Rattle.std.proofs.Common.{◌≡◌, ℕ, List, [], ◌∷◌, refl, sym, subst, inl, inr, zero, suc, ◌+◌, ◌∙◌, arith}
-use Rattle.std.specs.Prelude.{Result, Ok, Err, Option, Some, None}
-use Rattle.std.proofs.lemmas.Bool.{cond_both, cases_eq}
+use Rattle.std.proofs.Common.{◌≡◌, ◌<◌, ℕ, List, [], ◌∷◌, Bool, true, false, ap, length, refl, sym, subst, inl, inr, zero, suc, ◌+◌, ◌∙◌, arith}
+use Rattle.std.specs.Prelude.{Result, Ok, Err, Option, Some, None, nat_lt, if◌then◌else◌}
+use Rattle.std.specs.List.{list_any}
+use Rattle.std.proofs.lemmas.Bool.{cond_both, cases_eq, ltb-true}
 use Rattle.qx_types.specs.Configuration.{Configuration, name_bytes}
 use Rattle.qx_errno.specs.declared.Errno.{Errno}
-use Rattle.qx_errno.specs.declared.Errno.TheVariants.{EACCES}
+use Rattle.qx_errno.specs.declared.Errno.TheVariants.{EACCES, EEXIST, ENOSPC}
 use Rattle.qx_types.specs.declared.names.Manager.{Manager}
 use Rattle.qx_types.specs.declared.names.Thread.{Thread}
 use Rattle.qx_types.specs.declared.outcome.Answer.{Answer}
@@ -17,7 +18,7 @@ use Rattle.qx_wire.specs.declared.message.Meaning.TheVariants.{Known, Unknown, M
 use Rattle.qx_wire.specs.Reading.{meaning}
 use Rattle.qx_paths.specs.Mounts.{mount_fault}
 use Rattle.qx_paths.specs.Paths.{read_path, unless}
-use Rattle.qx_paths.specs.Prefixes.{MountPoint, is_under}
+use Rattle.qx_paths.specs.Prefixes.{MountPoint, is_at, is_under}
 use Rattle.qx_machine.specs.declared.rows.Caller.{Caller}
 use Rattle.qx_isolation.specs.declared.rows.OwnItem.{OwnItem}
 use Rattle.qx_machine.specs.declared.rows.Pulse.{Pulse}
@@ -79,22 +80,30 @@ deed_kept K keeps r h process caller target moment bytes =
 
 -- ---- a mount
 
--- a mount gets the lowest free number for its root
-abbrev IsNumbered : Resources → MountPoint → Type 0
-IsNumbered r mount = inode_number r.inodes ≡ Ok mount.root
+-- a mount comes where there may be one more
+abbrev MayMount : Resources → MountPoint → Type 0
+MayMount r mount = MayHappen (Mounts mount) r
 
-refused-gives : (r : Resources) (given : Result MountPoint Errno) → Gives (IsNumbered r) given → Gives (IsNumbered r) (or_refused given)
+fewer_mounts : (most : ℕ) (mounts : List MountPoint) (names free : List (List ℕ)) → unless (mount_fault most mounts names) names ≡ Ok free → length mounts < most
+fewer_mounts most mounts names free is = by (list_any (is_at names) mounts) (nat_lt (length mounts) most) refl is
+  where
+    by : (there few : Bool) → nat_lt (length mounts) most ≡ few → unless (if there then Some EEXIST else if few then None else Some ENOSPC) names ≡ Ok free → length mounts < most
+    by true few same given = absurd (cc)
+    by false true same given = ltb-true (length mounts) most same
+    by false false same given = absurd (cc)
+
+refused-gives : (r : Resources) (given : Result MountPoint Errno) → Gives (MayMount r) given → Gives (MayMount r) (or_refused given)
 refused-gives r (Ok mount) h = gives_done _ _ (gives-value _ (Ok mount) mount refl h)
 refused-gives r (Err error) h = gives_error _ _
 
-new_mount-gives : (name path : List ℕ) (manager : Manager) (r : Resources) → Gives (IsNumbered r) (new_mount name path manager r)
+new_mount-gives : (name path : List ℕ) (manager : Manager) (r : Resources) → Gives (MayMount r) (new_mount name path manager r)
 new_mount-gives name path manager r =
     gives_on _ (read_path path) _ (λ names is_path.
     gives_on _ (need (is_under name names) EACCES) _ (λ own is_own.
-    gives_on _ (unless (mount_fault r.mounts names) names) _ (λ free is_free.
-    gives_on _ (inode_number r.inodes) _ (λ root is. gives_done _ _ is))))
+    gives_on _ (unless (mount_fault r.limits.mounts r.mounts names) names) _ (λ free is_free.
+    gives_on _ (inode_number r.inodes) _ (λ root is. gives_done _ _ (is, fewer_mounts r.limits.mounts r.mounts names free is_free)))))
 
-pub mount_by-gives : (config : Configuration) (user : ℕ) (part : Part) (thread : Thread) (path : List ℕ) (manager : Manager) → Gives (IsNumbered part.resources) (mount_by config user part thread path manager)
+pub mount_by-gives : (config : Configuration) (user : ℕ) (part : Part) (thread : Thread) (path : List ℕ) (manager : Manager) → Gives (MayMount part.resources) (mount_by config user part thread path manager)
 mount_by-gives config user part thread path manager =
     gives_on _ (found (thread_at part thread.proc.num thread.tid) WrongState) _ (λ row is_row.
     gives_on _ (need _ WrongState) _ (λ ready is_one. refused-gives part.resources _ (new_mount-gives (name_bytes config user) path manager part.resources)))
@@ -158,7 +167,7 @@ module _ (K : Resources → Type 0) (keeps : (change : ResourceChange) (r : Reso
   unfolding settle_part
   settle-keeps before held after h =
       let lives = is_living after.processes in
-      keeps (Notifies (events_settled lives before.resources after.resources)) after.resources (triggered-kept lives (block_conditions before.resources) (block_conditions after.resources) after.resources.events) h
+      keeps (Notifies (events_settled lives before.resources after.resources)) after.resources (triggered-kept lives (block_conditions before.resources) (block_conditions after.resources) after.resources.events after.resources.limits.events) h
 
   -- ---- what a client does
 
@@ -173,15 +182,15 @@ module _ (K : Resources → Type 0) (keeps : (change : ResourceChange) (r : Reso
 
   pulse-keeps : (part : Part) (process : ℕ) (first : Option Pulse) → Keeps part → Gave (pulse_taken part process first)
   pulse-keeps part process None h = h
-  pulse-keeps part process (Some first) h = keeps (Notifies (without_first_pulse process part.resources.events)) part.resources (taken-kept process part.resources.events) h
+  pulse-keeps part process (Some first) h = keeps (Notifies (without_first_pulse process part.resources.events)) part.resources (taken-kept part.resources.limits.events process part.resources.events) h
 
   exit-keeps : (part : Part) (process : ℕ) → Keeps part → K (without_process process part.resources)
   exit-keeps part process h =
-      keeps (Notifies (without_pulses process part.resources.events)) (with_change (Abandons process) part.resources) (ended-kept process part.resources.events) (keeps (Abandons process) part.resources tt h)
+      keeps (Notifies (without_pulses process part.resources.events)) (with_change (Abandons process) part.resources) (ended-kept part.resources.limits.events process part.resources.events) (keeps (Abandons process) part.resources tt h)
 
   mount-gives : (config : Configuration) (user : ℕ) (part : Part) (thread : Thread) (path : List ℕ) (manager : Manager) → Keeps part → Gives Gave (mount config user part thread path manager)
   mount-gives config user part thread path manager h =
-      gives_by (λ (mount : MountPoint). inode_number part.resources.inodes ≡ Ok mount.root) _ (mount_by config user part thread path manager) _ (mount_by-gives config user part thread path manager)
+      gives_by (MayMount part.resources) _ (mount_by config user part thread path manager) _ (mount_by-gives config user part thread path manager)
       (λ mount is. gives_done _ _ (keeps (Mounts mount) part.resources is h))
 
   client-gives : (config : Configuration) (user : ℕ) (held : List OwnItem) (part : Part) (e : Step) → Keeps part → Gives Gave (client_given config user held part e)
@@ -201,65 +210,78 @@ module _ (K : Resources → Type 0) (keeps : (change : ResourceChange) (r : Reso
 
 -- ---- every user's part
 
--- each way to change a user's part keeps the property
-pub record IsKept (P : ℕ → Part → Type 0) : Type 0 where
-  pub client_step : (config : Configuration) (user : ℕ) (held : List OwnItem) (part : Part) (e : Step) → P user part → P user (client config user held part e).part
+-- each way to change a user's part keeps the property, in a world of this configuration
+pub record IsKept (config : Configuration) (P : ℕ → Part → Type 0) : Type 0 where
+  pub client_step : (user : ℕ) (held : List OwnItem) (part : Part) (e : Step) → P user part → P user (client config user held part e).part
   pub taking : (user : ℕ) (part : Part) (own : OwnItem) → P user part → P user (take part own)
-  pub serving : (config : Configuration) (user : ℕ) (held : List OwnItem) (part : Part) (own : OwnItem) (moment : ℕ) → P user part → P user (serve config user held part own moment).part
+  pub serving : (user : ℕ) (held : List OwnItem) (part : Part) (own : OwnItem) (moment : ℕ) → P user part → P user (serve config user held part own moment).part
   pub settling : (user : ℕ) (before : Part) (held : List OwnItem) (after : Part) → P user after → P user (settle_part before held after)
 
-module _ (P : ℕ → Part → Type 0) (keeps : IsKept P) where
-  abbrev pub HoldsIn : List (Option Part) → Type 0
-  HoldsIn parts = (user : ℕ) (part : Part) → row_at parts user ≡ Some part → P user part
+module _ (config : Configuration) (P : ℕ → Part → Type 0) (keeps : IsKept config P) where
+  -- each user's part has it
+  record HoldsIn (w : World) : Type 0 where
+    configured : w.config ≡ config
+    each : (user : ℕ) (part : Part) → row_at w.parts user ≡ Some part → P user part
 
-  end-holds : (user : ℕ) (before after : Part) (changes : List LineChange) (w : World) → HoldsIn w.parts → P user after → HoldsIn (step_end user before after changes w).parts
-  end-holds user before after changes w h own other part there =
-      let settled = settle_part before (own_held user w.hands) after in
-      elim (cases_eq other user) [
-        | inl same ↦ elim (row_at-set_cases w.parts user other (Some settled) part there) [
-          | inl was ↦ h other part was
-          | inr put ↦ let is : settled ≡ part = same_Some _ _ put in subst (λ number. P number part) (sym same) (subst (P user) is (keeps.settling user before (own_held user w.hands) after own))
-        ]
-        | inr apart ↦ h other part (sym (row_at-set_other w.parts user other (Some settled) apart) ∙ there)
-      ]
+  end-holds : (user : ℕ) (before after : Part) (changes : List LineChange) (w : World) → HoldsIn w → P user after → HoldsIn (step_end user before after changes w)
+  end-holds user before after changes w h own = record {
+    configured = h.configured;
+    each = λ other part there.
+        let settled = settle_part before (own_held user w.hands) after in
+        elim (cases_eq other user) [
+          | inl same ↦ elim (row_at-set_cases w.parts user other (Some settled) part there) [
+            | inl was ↦ h.each other part was
+            | inr put ↦ let is : settled ≡ part = same_Some _ _ put in subst (λ number. P number part) (sym same) (subst (P user) is (keeps.settling user before (own_held user w.hands) after own))
+          ]
+          | inr apart ↦ h.each other part (sym (row_at-set_other w.parts user other (Some settled) apart) ∙ there)
+        ];
+  }
 
-  client-holds : (w : World) (user : ℕ) (e : Step) (row : Option Part) → row_at w.parts user ≡ row → HoldsIn w.parts → HoldsIn (client_step w user e row).world.parts
+  client-holds : (w : World) (user : ℕ) (e : Step) (row : Option Part) → row_at w.parts user ≡ row → HoldsIn w → HoldsIn (client_step w user e row).world
   client-holds w user e None is h = h
   client-holds w user e (Some part) is h =
-      let given = client w.config user (own_held user w.hands) part e in
-      end-holds user part given.part given.changes w h (keeps.client_step w.config user (own_held user w.hands) part e (h user part is))
+      let held = own_held user w.hands in
+      let given = client w.config user held part e in
+      let own = subst (λ c. P user (client c user held part e).part) (sym h.configured) (keeps.client_step user held part e (h.each user part is)) in
+      end-holds user part given.part given.changes w h own
 
-  received-holds : (w : World) (taken : Held) (row : Option Part) → row_at w.parts taken.user.0 ≡ row → HoldsIn w.parts → HoldsIn (received_part w taken row).parts
+  received-holds : (w : World) (taken : Held) (row : Option Part) → row_at w.parts taken.user.0 ≡ row → HoldsIn w → HoldsIn (received_part w taken row)
   received-holds w taken None is h = h
-  received-holds w taken (Some part) is h = end-holds taken.user.0 part (take part taken.item) [] w h (keeps.taking taken.user.0 part taken.item (h taken.user.0 part is))
+  received-holds w taken (Some part) is h = end-holds taken.user.0 part (take part taken.item) [] w h (keeps.taking taken.user.0 part taken.item (h.each taken.user.0 part is))
 
-  performed-holds : (w : World) (held : Held) (moment : ℕ) (row : Option Part) → row_at w.parts held.user.0 ≡ row → HoldsIn w.parts → HoldsIn (performed_part w held moment row).parts
+  performed-holds : (w : World) (held : Held) (moment : ℕ) (row : Option Part) → row_at w.parts held.user.0 ≡ row → HoldsIn w → HoldsIn (performed_part w held moment row)
   performed-holds w held moment None is h = h
   performed-holds w held moment (Some part) is h =
       let user = held.user.0 in
-      let given = serve w.config user (own_held user w.hands) part held.item moment in
-      end-holds user part given.part given.changes w h (keeps.serving w.config user (own_held user w.hands) part held.item moment (h user part is))
+      let hands = own_held user w.hands in
+      let given = serve w.config user hands part held.item moment in
+      let own = subst (λ c. P user (serve c user hands part held.item moment).part) (sym h.configured) (keeps.serving user hands part held.item moment (h.each user part is)) in
+      end-holds user part given.part given.changes w h own
 
-  server-holds : (w : World) (e : Step) → HoldsIn w.parts → HoldsIn (server_step w e).world.parts
-  server-holds w e h = server_leaves w e (λ v. HoldsIn v.parts) h
-      (λ worker manager taken is. received-holds (with_taken w worker manager taken) taken (row_at w.parts taken.user.0) refl h)
-      (λ worker moment held is. performed-holds (with_empty_hand w worker) held moment (row_at w.parts held.user.0) refl h)
+  -- what stands in the lines and in the hands is not seen
+  seen-holds : (w now : World) → now.config ≡ w.config → now.parts ≡ w.parts → HoldsIn w → HoldsIn now
+  seen-holds w now configured same h = record { configured = configured ∙ h.configured; each = λ user part there. h.each user part (ap (λ parts. row_at parts user) (sym same) ∙ there) }
 
-  step_of-holds : (w : World) (e : Step) (actor : Option Actor) → HoldsIn w.parts → HoldsIn (step_of w e actor).world.parts
+  server-holds : (w : World) (e : Step) → HoldsIn w → HoldsIn (server_step w e).world
+  server-holds w e h = server_leaves w e HoldsIn h
+      (λ worker manager taken is. received-holds (with_taken w worker manager taken) taken (row_at w.parts taken.user.0) refl (seen-holds w (with_taken w worker manager taken) refl refl h))
+      (λ worker moment held is. performed-holds (with_empty_hand w worker) held moment (row_at w.parts held.user.0) refl (seen-holds w (with_empty_hand w worker) refl refl h))
+
+  step_of-holds : (w : World) (e : Step) (actor : Option Actor) → HoldsIn w → HoldsIn (step_of w e actor).world
   step_of-holds w e None h = server-holds w e h
   step_of-holds w e (Some actor) h = client-holds w (user_of actor) e (row_at w.parts (user_of actor)) refl h
 
-  step-holds : (w : World) (e : Step) → HoldsIn w.parts → HoldsIn (step w e).world.parts
+  step-holds : (w : World) (e : Step) → HoldsIn w → HoldsIn (step w e).world
   unfolding step
   step-holds w e h = step_of-holds w e (actor_of e) h
 
-  after-holds : (w : World) (steps : List Step) → HoldsIn w.parts → HoldsIn (world_after w steps).parts
+  after-holds : (w : World) (steps : List Step) → HoldsIn w → HoldsIn (world_after w steps)
   after-holds w [] h = h
   after-holds w (e ∷ steps) h = after-holds (step w e).world steps (step-holds w e h)
 
   -- ---- from boot
 
-  module _ (config : Configuration) (starts : (user : ℕ) → P user (boot_part config user)) where
+  module _ (starts : (user : ℕ) → P user (boot_part config user)) where
     boot-parts-hold : (first : ℕ) (names : List (List ℕ)) (place : ℕ) (part : Part) → row_at (boot_parts config first names) place ≡ Some part → P (first + place) part
     boot-parts-hold first [] place part there = absurd (cc)
     boot-parts-hold first (name ∷ names) zero part there =
@@ -267,11 +289,15 @@ module _ (P : ℕ → Part → Type 0) (keeps : IsKept P) where
     boot-parts-hold first (name ∷ names) (suc place) part there =
         subst (λ user. P user part) (omega arith) (boot-parts-hold (first + 1) names place part there)
 
-    boot-holds : HoldsIn (boot config).parts
+    boot-each : (user : ℕ) (part : Part) → row_at (boot config).parts user ≡ Some part → P user part
     unfolding system.boot
-    boot-holds zero part there = absurd (cc)
-    boot-holds (suc place) part there = subst (λ user. P user part) (omega arith) (boot-parts-hold 1 config.users place part there)
+    boot-each zero part there = absurd (cc)
+    boot-each (suc place) part there = subst (λ user. P user part) (omega arith) (boot-parts-hold 1 config.users place part there)
+
+    boot-config : (boot config).config ≡ config
+    unfolding system.boot
+    boot-config = refl
 
     -- in each world that a run reaches
-    pub run-holds : (steps : List Step) → HoldsIn (run config steps).world.parts
-    run-holds steps = after-holds (boot config) steps boot-holds
+    pub run-holds : (steps : List Step) (user : ℕ) (part : Part) → row_at (run config steps).world.parts user ≡ Some part → P user part
+    run-holds steps = (after-holds (boot config) steps (record { configured = boot-config; each = boot-each })).each

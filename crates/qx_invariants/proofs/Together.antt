@@ -4,6 +4,7 @@ use Rattle.std.specs.Prelude.{Option, Some, None, if◌then◌else◌, is_some, 
 use Rattle.std.specs.FinMap.{empty, get, get-empty}
 use Rattle.std.proofs.lemmas.List.{length-replicate}
 use Rattle.std.proofs.lemmas.Option.{same_Some}
+use Rattle.qx_types.specs.UserLimits.{AreLimits, UserLimits}
 use Rattle.qx_types.specs.declared.limits.TheConstants.Limits.{INODES, PROCESSES}
 use Rattle.qx_machine.specs.declared.rows.Attribute.{Attribute}
 use Rattle.qx_machine.specs.declared.rows.Kind.{Kind}
@@ -44,18 +45,22 @@ none_there (suc n) = refl
 no_files_size : (places : ℕ) → total_size (replicate places None) ≡ 0
 no_files_size places = let all = sum_by-replicate size_of places None in omega (arith, all)
 
-module _ (user : ℕ) (name : List ℕ) where
+module _ (limits : UserLimits) (user : ℕ) (name : List ℕ) where
   abbrev start : Resources
-  start = new_resources user name
+  start = new_resources limits user name
 
   pub the_root : (inode : ℕ) (attribute : Attribute) → row_at start.inodes.attributes inode ≡ Some attribute → (inode ≡ 1) × (attribute ≡ root_attribute user)
   the_root zero attribute is = absurd (cc)
   the_root (suc zero) attribute is = (omega arith, sym (same_Some _ _ is))
   the_root (suc (suc inode)) attribute is = absurd (cc)
 
-  boot_room : HasRoom start
-  boot_room = record {
-    inodes = λ inode attribute is. let one = (the_root inode attribute is).0 in (omega (arith, one), omega (arith, one));
+  boot_room : AreLimits limits → HasRoom start
+  boot_room in_range = record {
+    inodes = λ inode attribute is. let one = (the_root inode attribute is).0 in let some = in_range.inodes.0 in (omega (arith, one), omega (arith, one, some));
+    most_inodes = refl;
+    most_blocks = refl;
+    limits = in_range;
+    mounts = in_range.mounts.0;
     some_inodes = omega arith;
     blocks = λ number block is. let none : None ≡ Some block = sym (none_there number) ∙ is in absurd (cc);
     some_blocks = omega arith;
@@ -151,5 +156,17 @@ pub record Holds (r : Resources) : Type 0 where
 pub holds-keep : (change : ResourceChange) (r : Resources) → MayHappen change r → Holds r → Holds (with_change change r)
 holds-keep change r may h = record { room = room-keeps change r may h.room; contents = contents-keep change r may h.room h.contents; settled = settled-keep change r may h.settled; names = names-keep change r may h.room h.names; tree = tree-keeps change r may h.room h.names h.tree; waiters = astray-keeps change r may h.room h.contents h.waiters; mounts = mounts-keep change r may h.room h.names h.mounts; limits = limits-keep change r may h.limits; events = events-keep change r may h.events; uses = uses-keep change r may h.room h.uses; made = made-keeps change r may h.room h.made }
 
-pub boot_holds : (user : ℕ) (name : List ℕ) → Holds (new_resources user name)
-boot_holds user name = record { room = boot_room user name; contents = boot_contents user name; settled = boot_settled user name; names = boot_names user name; tree = boot_tree user name; waiters = boot_waiters user name; mounts = boot_rooted user name; limits = boot_limits user name; events = boot_events user name; uses = boot_uses user name; made = boot_made user name }
+pub boot_holds : (limits : UserLimits) → AreLimits limits → (user : ℕ) (name : List ℕ) → Holds (new_resources limits user name)
+boot_holds limits in_range user name = record {
+  room = boot_room limits user name in_range;
+  contents = boot_contents limits user name;
+  settled = boot_settled limits user name;
+  names = boot_names limits user name;
+  tree = boot_tree limits user name;
+  waiters = boot_waiters limits user name;
+  mounts = boot_rooted limits user name;
+  limits = boot_limits limits user name;
+  events = boot_events limits user name;
+  uses = boot_uses limits user name;
+  made = boot_made limits user name;
+}

@@ -3,7 +3,6 @@ use Rattle.std.proofs.Common.{◌≡◌, ◌≢◌, ◌⊎◌, inl, inr, ℕ, Li
 use Rattle.std.specs.Prelude.{Some, None, option_map}
 use Rattle.std.specs.FinMap.{get, insert}
 use Rattle.std.proofs.lemmas.Bool.{cases_eq}
-use Rattle.qx_types.specs.declared.limits.TheConstants.Limits.{INODES}
 use Rattle.qx_wire.specs.Rests.{is_component}
 use Rattle.qx_machine.specs.declared.rows.Attribute.{Attribute}
 use Rattle.qx_machine.specs.declared.rows.Kind.{Kind}
@@ -43,7 +42,7 @@ changed_directory r inode change same above d = elim (cases_eq d.inode inode) [
   | inr apart ↦ record { inode = d.inode; attribute = d.attribute; leads = d.leads; there = with_row-other r.inodes.attributes inode change d.inode apart ∙ d.there; directory = d.directory }
 ]
 
-come_directory : (r : Resources) (inode : ℕ) (key : Key) (attribute : Attribute) → IsNew r.inodes.attributes INODES inode → get r.names key ≡ None → (above : Key) → IsDirectoryAt r above → IsDirectoryAt (with_named inode key attribute r) above
+come_directory : (r : Resources) (inode : ℕ) (key : Key) (attribute : Attribute) → IsNew r.inodes.attributes r.inodes.most_inodes inode → get r.names key ≡ None → (above : Key) → IsDirectoryAt r above → IsDirectoryAt (with_named inode key attribute r) above
 come_directory r inode key attribute new missing above d = record {
   inode = d.inode;
   attribute = d.attribute;
@@ -105,7 +104,7 @@ IsNotUnlinked _ above = Unit {0}
 
 directory_stays : (change : ResourceChange) (r : Resources) → MayHappen change r → HasRoom r → HasNames r → (above : Key) → IsNotUnlinked change above → IsDirectoryAt r above → IsDirectoryAt (with_change change r) above
 directory_stays (Mounts mount) r may room names above apart d =
-    let new = inode_is_new r.inodes mount.root room.some_inodes may in
+    let new = inode_is_new r.inodes mount.root room.some_inodes may.0 in
     seen_directory (with_named mount.root (root_key mount.root) (root_attribute r.user) r) _ refl refl above (come_directory r mount.root (root_key mount.root) (root_attribute r.user) new (free_root r names mount.root new.free) above d)
 directory_stays (Comes inode directory name which mode moment) r may room names above apart d =
     let named = with_named inode (under directory name) (new_attribute which mode r.user moment) r in
@@ -186,7 +185,7 @@ mounts-keep (Mounts mount) r may room names h = record {
         inode = mount.root;
         attribute = root_attribute r.user;
         leads = insert-at r.names (root_key mount.root) mount.root;
-        there = put_at r.inodes.attributes mount.root (root_attribute r.user) (inode_is_new r.inodes mount.root room.some_inodes may).within;
+        there = put_at r.inodes.attributes mount.root (root_attribute r.user) (inode_is_new r.inodes mount.root room.some_inodes may.0).within;
         directory = refl;
       }) (All-nil (λ (m : MountPoint). IsDirectoryAt (with_mount mount r) (root_key m.root))));
 }

@@ -1,10 +1,10 @@
 -- All that can happen to a user's resources: nothing but these changes, one after another.
-use Rattle.std.specs.Prelude.{◌+◌, ◌-◌, ◌≡◌, ◌≤◌, ◌⊎◌, ◌++◌, length, map, option_map, slice_set, ℕ, Bool, true, List, [], ◌∷◌, Option, Some, None, Ok, is_some}
+use Rattle.std.specs.Prelude.{◌+◌, ◌-◌, ◌≡◌, ◌≤◌, ◌<◌, ◌⊎◌, ◌++◌, length, map, option_map, slice_set, ℕ, Bool, true, List, [], ◌∷◌, Option, Some, None, Ok, is_some}
 use Rattle.std.specs.List.{count_by}
 use Rattle.std.specs.FinMap.{get, insert, remove}
 use Rattle.qx_device.specs.declared.TheConstants.{STATE}
 use Rattle.qx_devices.specs.declared.Device.{Device}
-use Rattle.qx_types.specs.declared.limits.TheConstants.Limits.{EVENTS, FILE, FILES, LAST_CONNECTION, PIPE}
+use Rattle.qx_types.specs.declared.limits.TheConstants.Limits.{LAST_CONNECTION, PIPE}
 use Rattle.qx_machine.specs.Files.{total_size}
 use Rattle.qx_wire.specs.Rests.{is_component}
 use Rattle.qx_paths.specs.Prefixes.{MountPoint}
@@ -163,10 +163,10 @@ pub record IsMoved (before after : Ocb) : Type 0 where
 pub record IsRewritten (r : Resources) (inode : ℕ) (bytes : List ℕ) : Type 0 where
   pub was : List ℕ
   pub there : row_at r.files inode ≡ Some was
-  -- no more than before, or than a file may have
-  pub file : (length bytes ≤ length was) ⊎ (length bytes ≤ FILE)
+  -- no more than before, or than a file of the user may have
+  pub file : (length bytes ≤ length was) ⊎ (length bytes ≤ r.limits.file)
   -- no more than before, or all files together have no more than they may
-  pub files : (length bytes ≤ length was) ⊎ (total_size (slice_set r.files inode (Some bytes)) ≤ FILES)
+  pub files : (length bytes ≤ length was) ⊎ (total_size (slice_set r.files inode (Some bytes)) ≤ r.limits.bytes)
 
 -- something was done to the pipe of an inode, or to its device, to which these calls came
 pub record IsDone (r : Resources) (inode : ℕ) (after : PipeAfter WaitingCall) (came : List WaitingCall) : Type 0 where
@@ -183,10 +183,10 @@ pub record IsDone (r : Resources) (inode : ℕ) (after : PipeAfter WaitingCall) 
   -- no more bytes stand than may
   pub short : IsShort pipe → IsShort after.pipe
 
--- these are a user's events once some came or went
-pub record AreKept (before events : Events) : Type 0 where
+-- these are the events of a user who may have so many, once some came or went
+pub record AreKept (most : ℕ) (before events : Events) : Type 0 where
   -- armed events and untaken pulses together are no more than before, or than may be
-  pub few : (event_count events ≤ event_count before) ⊎ (event_count events ≤ EVENTS)
+  pub few : (event_count events ≤ event_count before) ⊎ (event_count events ≤ most)
   -- each process has a queue still
   pub queues : length events.pulses ≡ length before.pulses
 
@@ -195,12 +195,12 @@ abbrev pub MayPart : Parting → Ocb → Type 0
 MayPart WithLast block = block.uses ≤ 1
 MayPart WithClient block = Unit {0}
 
--- an inode comes under the lowest free number, with a name that is a component and not there yet, into a directory; a name goes that leads to
+-- a mount comes where the user may have one more; an inode comes under the lowest free number, with a name that is a component and not there yet, into a directory; a name goes that leads to
 -- an inode in which no names are; only what is there is opened, written, closed or unnamed, and opened by a path; one connection has what comes to be open, and
 -- what is open stays so while another has it, unless its client is gone; nobody waits over what is closed; and events do not come to be too
 -- many
 abbrev pub MayHappen : ResourceChange → Resources → Type 0
-MayHappen (Mounts mount) r = inode_number r.inodes ≡ Ok mount.root
+MayHappen (Mounts mount) r = (inode_number r.inodes ≡ Ok mount.root) × (length r.mounts < r.limits.mounts)
 MayHappen (Comes inode directory name kind mode moment) r = (inode_number r.inodes ≡ Ok inode) × IsDirectoryAt r directory × (get r.names (under directory name) ≡ None) × (is_component name ≡ true)
 MayHappen (Touches inode mode mtime ctime) r = Unit {0}
 MayHappen (Opens number block at) r = (block_number r.inodes ≡ Ok number) × (is_some (row_at r.inodes.attributes block.inode) ≡ true) × (block.uses ≡ 1) × LeadsTo r at block.inode
@@ -209,7 +209,7 @@ MayHappen (Writes inode moment bytes) r = IsRewritten r inode bytes
 MayHappen (Fills inode moment after came) r = IsDone r inode after came
 MayHappen (Unlinks own directory name inode mtime ctime) r = (get r.names (under directory name) ≡ Some inode) × (names_in r.names inode ≡ []) × IsOwnInode own r inode
 MayHappen (Closes own number block parting) r = (row_at r.inodes.blocks number ≡ Some block) × IsOwnInode own r block.inode × (count_waiting_in (is_over number) (pipe_in own r block.inode) ≡ 0) × MayPart parting block
-MayHappen (Notifies events) r = AreKept r.events events
+MayHappen (Notifies events) r = AreKept r.limits.events r.events events
 MayHappen (Abandons process) r = Unit {0}
 
 -- ---- one after another

@@ -1,11 +1,12 @@
 -- How a user's inodes, names, files, pipes and devices stand together.
-use Rattle.std.specs.Prelude.{All, ◌≡◌, ◌≢◌, ◌⊎◌, ℕ, ◌+◌, ◌-◌, ◌≤◌, ◌<◌, ◌==◌, ◌&&◌, Bool, false, true, List, Option, Some, None, filter, is_some, length, map, option_map, slice_get, if◌then◌else◌}
+use Rattle.std.specs.Prelude.{All, ◌≡◌, ◌≢◌, ◌⊎◌, ℕ, ◌+◌, ◌≤◌, ◌<◌, ◌==◌, ◌&&◌, Bool, false, true, List, Option, Some, None, filter, is_some, length, map, option_map, slice_get, sum_by, if◌then◌else◌}
 use Rattle.std.specs.FinMap.{get}
 use Rattle.std.specs.List.{count_by}
 use Rattle.qx_paths.specs.Prefixes.{MountPoint}
 use Rattle.qx_devices.specs.declared.Device.{Device}
 use Rattle.qx_types.specs.Configuration.{Configuration}
-use Rattle.qx_types.specs.declared.limits.TheConstants.Limits.{BLOCKS, FILE, FILES, FIRST_CONNECTION, INODES, LAST_CONNECTION}
+use Rattle.qx_types.specs.UserLimits.{AreLimits}
+use Rattle.qx_types.specs.declared.limits.TheConstants.Limits.{FIRST_CONNECTION, INODES, LAST_CONNECTION}
 use Rattle.qx_types.specs.declared.names.Manager.{Manager}
 use Rattle.qx_types.specs.declared.step.Step.{Step}
 use Rattle.qx_wire.specs.Rests.{is_component}
@@ -19,6 +20,7 @@ use Rattle.qx_machine.specs.declared.rows.Kind.TheVariants as kind
 use Rattle.qx_machine.specs.declared.rows.Ocb.{Ocb}
 use Rattle.qx_machine.specs.declared.rows.Pulse.{Pulse}
 use Rattle.qx_machine.specs.declared.rows.WaitingCall.{WaitingCall}
+use Rattle.qx_machine.specs.Calls.{server_count}
 use Rattle.qx_machine.specs.Defaults.{is_own}
 use Rattle.qx_machine.specs.Events.{is_due, pulse_of}
 use Rattle.qx_machine.specs.Files.{total_size}
@@ -49,9 +51,16 @@ HoldsInRuns Holds = HoldsOfParts (λ part. Holds part.resources)
 -- ---- numbers
 
 pub record HasRoom (r : Resources) : Type 0 where
-  -- inodes are numbered from 1 to 1,024, and open control blocks from 1 to 256
-  pub inodes : (inode : ℕ) (attribute : Attribute) → row_at r.inodes.attributes inode ≡ Some attribute → (1 ≤ inode) × (inode ≤ INODES)
-  pub blocks : (number : ℕ) (block : Ocb) → row_at r.inodes.blocks number ≡ Some block → (1 ≤ number) × (number ≤ BLOCKS)
+  -- inodes are numbered from 1 to the user's limit, and so are open control blocks
+  pub inodes : (inode : ℕ) (attribute : Attribute) → row_at r.inodes.attributes inode ≡ Some attribute → (1 ≤ inode) × (inode ≤ r.limits.inodes)
+  pub blocks : (number : ℕ) (block : Ocb) → row_at r.inodes.blocks number ≡ Some block → (1 ≤ number) × (number ≤ r.limits.blocks)
+  -- the tables are of these limits
+  pub most_inodes : r.inodes.most_inodes ≡ r.limits.inodes
+  pub most_blocks : r.inodes.most_blocks ≡ r.limits.blocks
+  -- each limit is in its range
+  pub limits : AreLimits r.limits
+  -- and there are no more mounts than that
+  pub mounts : length r.mounts ≤ r.limits.mounts
   -- the tables begin with the place 0
   pub some_inodes : 0 < length r.inodes.attributes
   pub some_blocks : 0 < length r.inodes.blocks
@@ -108,10 +117,10 @@ pub record HasContents (r : Resources) : Type 0 where
   pub pipes : (inode : ℕ) → option_map (λ (pipe : Pipe WaitingCall). (pipe.device, length pipe.bytes)) (row_at r.pipes inode) ≡ in_inode calls_of (row_at r.inodes.attributes inode)
 
 pub record HasLimits (r : Resources) : Type 0 where
-  -- no file has more bytes than a file may have
-  pub file : (inode : ℕ) (bytes : List ℕ) → row_at r.files inode ≡ Some bytes → length bytes ≤ FILE
+  -- no file has more bytes than a file of the user may have
+  pub file : (inode : ℕ) (bytes : List ℕ) → row_at r.files inode ≡ Some bytes → length bytes ≤ r.limits.file
   -- nor have all files together
-  pub files : total_size r.files ≤ FILES
+  pub files : total_size r.files ≤ r.limits.bytes
   -- nor do more stand in a pipe or a device than may
   pub pipe : (inode : ℕ) (pipe : Pipe WaitingCall) → row_at r.pipes inode ≡ Some pipe → IsShort pipe
 
@@ -215,17 +224,27 @@ pub record HasConnections (part : Part) : Type 0 where
 
 -- ---- how many connections
 
--- the number of each is one from 3 to 66
-abbrev pub AreNumbered : List (Option Connection) → Type 0
-AreNumbered connections = (coid : ℕ) (connection : Connection) → row_at connections coid ≡ Some connection → (FIRST_CONNECTION ≤ coid) × (coid ≤ LAST_CONNECTION)
+-- the number of each is one of so many from 3 on
+abbrev pub AreNumbered : ℕ → List (Option Connection) → Type 0
+AreNumbered most connections = (coid : ℕ) (connection : Connection) → row_at connections coid ≡ Some connection → (FIRST_CONNECTION ≤ coid) × (coid < FIRST_CONNECTION + most)
 
 pub record HasFewConnections (part : Part) : Type 0 where
-  -- so it is of each process
-  pub numbered : (number : ℕ) (process : Process) → row_at part.processes number ≡ Some process → AreNumbered process.connections
-  -- and none has more than 64
-  pub few : (number : ℕ) (process : Process) → row_at part.processes number ≡ Some process → count_by is_some process.connections ≤ LAST_CONNECTION + 1 - FIRST_CONNECTION
+  -- so it is of each process, by the user's limit
+  pub numbered : (number : ℕ) (process : Process) → row_at part.processes number ≡ Some process → AreNumbered part.resources.limits.connections process.connections
+  -- and none has more than that
+  pub few : (number : ℕ) (process : Process) → row_at part.processes number ≡ Some process → count_by is_some process.connections ≤ part.resources.limits.connections
   -- and until its process ends, an open control block has no more uses than that has connections
   pub uses : (which : ℕ) (block : Ocb) → row_at part.resources.inodes.blocks which ≡ Some block → (process : Process) → row_at part.processes block.client.process ≡ Some process → has_ended process ≡ false → block.uses ≤ count_by is_some process.connections
+
+-- ---- how many processes, and server connections
+
+-- processes are numbered from 1 to the user's limit
+pub record HasFewProcesses (part : Part) : Type 0 where
+  pub numbered : (number : ℕ) (process : Process) → row_at part.processes number ≡ Some process → (1 ≤ number) × (number ≤ part.resources.limits.processes)
+
+-- all processes of a user have no more server connections at a manager than the user's limit
+pub record HasFewServers (part : Part) : Type 0 where
+  pub few : (manager : Manager) → sum_by (server_count manager) part.processes ≤ part.resources.limits.servers
 
 -- ---- events
 

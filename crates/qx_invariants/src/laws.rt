@@ -4,8 +4,8 @@ ghost use Rattle.std.specs.Prelude.{◌≡◌, ℕ, ◌+◌, ◌≤◌, ◌<◌,
 ghost use Rattle.std.specs.Cmp.Lexicographic.{slice_cmp};
 ghost use Rattle.std.specs.List.Sorted.{IsStrictlySortedBy};
 ghost use Rattle.std.specs.Ordering.{nat_cmp};
-ghost use Rattle.qx_types.specs.Configuration.{Configuration, name_bytes};
-ghost use Rattle.qx_types.specs.declared.limits.TheConstants.Limits.{EVENTS, PROCESSES};
+ghost use Rattle.qx_types.specs.Configuration.{Configuration, limits_of, name_bytes};
+ghost use Rattle.qx_types.specs.declared.limits.TheConstants.Limits.{PROCESSES};
 ghost use Rattle.qx_types.specs.declared.step.Step.{Step};
 ghost use Rattle.qx_machine.specs.declared.rows.Client.{Client};
 ghost use Rattle.qx_machine.specs.declared.rows.Conditions.{Conditions};
@@ -23,16 +23,23 @@ ghost use Rattle.qx_machine.specs.Runs.{run};
 ghost use Rattle.qx_machine.specs.Settling.{is_held};
 ghost use Rattle.qx_machine.specs.Waiting.{is_call};
 ghost use Rattle.qx_invariants.specs.Changes.{Become};
-ghost use Rattle.qx_invariants.specs.Holds.{HasClients, HasConnections, HasContents, HasFewConnections, HasKinds, HasLimits, HasMade, HasMounts, HasNames, HasOpenWaiters, HasOwnWaiters, HasRoom, HasSettledPipes, HasTree, HasUses, HoldsInRuns, HoldsOfParts, IsOwnedBy, WaitsOnce, due_pulses};
+ghost use Rattle.qx_invariants.specs.Holds.{HasClients, HasConnections, HasContents, HasFewConnections, HasFewProcesses, HasFewServers, HasKinds, HasLimits, HasMade, HasMounts, HasNames, HasOpenWaiters, HasOwnWaiters, HasRoom, HasSettledPipes, HasTree, HasUses, HoldsInRuns, HoldsOfParts, IsOwnedBy, WaitsOnce, due_pulses};
 ghost use Rattle.qx_invariants.specs.Waits.{count_waiting};
 
 /// A user's resources become what they are by a few kinds of change alone, one after another, each where it may happen.
 #[tactic(auto, using(crate::proofs::Reached::run_becomes))]
 pub fn only_changes_happen()
-    ensures { (config : Configuration) (steps : List Step) (user : ℕ) (part : Part) → row_at (run config steps).world.parts user ≡ Some part → Become (new_resources user (name_bytes config user)) part.resources }
+    ensures { (config : Configuration) (steps : List Step) (user : ℕ) (part : Part) → row_at (run config steps).world.parts user ≡ Some part → Become (new_resources (limits_of config user) user (name_bytes config user)) part.resources }
 {}
 
-/// Inodes and open control blocks are numbered from 1 within their limits, and each inode has a place for what is in it.
+/// Each user's limits are those of the configuration, whatever steps are taken.
+#[tactic(auto, using(crate::proofs::Reached::run_limits))]
+pub fn limits_are_as_at_boot()
+    ensures { (config : Configuration) (steps : List Step) (user : ℕ) (part : Part) → row_at (run config steps).world.parts user ≡ Some part → part.resources.limits ≡ limits_of config user }
+{}
+
+/// Inodes and open control blocks are numbered from 1 within the user's limits, each inode has a place for what is in it, and
+/// there are no more mounts than the user's limit, the top among them.
 pub fn numbers_are_within_limits()
     ensures { HoldsInRuns HasRoom }
 {}
@@ -65,11 +72,24 @@ pub fn connections_have_what_is_open()
     ensures { HoldsOfParts HasConnections }
 {}
 
-/// A process has at most 64 connections, numbered from 3 to 66; so until it ends, what it has open has no more uses (C Library
-/// Reference: `dup`).
+/// A process has no more connections than the user's limit, numbered from 3; so until it ends, what it has open has no more
+/// uses (C Library Reference: `dup`).
 #[tactic(auto, using(crate::proofs::Reached::run_few_connections))]
 pub fn connections_are_within_the_limit()
     ensures { HoldsOfParts HasFewConnections }
+{}
+
+/// A user has no more processes than the user's limit, those that have ended and are not freed among them, numbered from 1.
+#[tactic(auto, using(crate::proofs::Reached::run_few_processes))]
+pub fn processes_are_within_the_limit()
+    ensures { HoldsOfParts HasFewProcesses }
+{}
+
+/// A user has no more server connections at a manager than the user's limit, those whose disconnect pulse is not performed
+/// among them.
+#[tactic(auto, using(crate::proofs::Reached::run_few_servers))]
+pub fn server_connections_are_within_the_limit()
+    ensures { HoldsOfParts HasFewServers }
 {}
 
 /// What a path in a mount leads to, and what a client has open at a manager, is a directory or of the manager's own kind.
@@ -91,16 +111,16 @@ pub fn sizes_tell_contents()
     ensures { HoldsInRuns HasContents }
 {}
 
-/// No file has more than 65,536 bytes, nor have all files of a user more than 1,048,576, and no more than 4,096 stand in a
-/// pipe, or in a device.
+/// No file has more bytes than the user's limit of a file, nor have all files of a user more than that of bytes, and no more
+/// than 4,096 stand in a pipe, or in a device.
 pub fn bytes_are_within_limits()
     ensures { HoldsInRuns HasLimits }
 {}
 
-/// A user's armed events and untaken pulses, those of all processes together, are no more than 128, and there is a queue for
-/// the pulses of each process, under its number.
+/// A user's armed events and untaken pulses, those of all processes together, are no more than the user's limit, and there is
+/// a queue for the pulses of each process, under its number.
 pub fn events_are_within_the_limit()
-    ensures limit { HoldsInRuns (λ r. event_count r.events ≤ EVENTS) }
+    ensures limit { HoldsInRuns (λ r. event_count r.events ≤ r.limits.events) }
     ensures queues { HoldsInRuns (λ r. length r.events.pulses ≡ PROCESSES + 1) }
 {}
 

@@ -7,7 +7,8 @@
 //! In `proofs/`, `Deeds.antt` has the changes that each function of the managers makes, and `Steps.antt` carries what
 //! they keep through steps and runs. `Rooms.antt`, `Contents.antt`, `Named.antt`, `Trees.antt`, `Astray.antt`,
 //! `Events.antt` and `Once.antt` have what these kinds leave of the laws; `Clients.antt` has who the clients of open
-//! control blocks are, and `Linked.antt` which connections have them and which server connections disconnect pulses name;
+//! control blocks are, `Linked.antt` which connections have them and which server connections disconnect pulses name, and
+//! `Few.antt` how many processes, connections and server connections a user has;
 //! `Together.antt` and `Reached.antt` put them together. The others stand below: calls on a pipe or a device, rows and
 //! paths, one at a time.
 //!

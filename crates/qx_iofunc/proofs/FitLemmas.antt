@@ -10,6 +10,7 @@ use Rattle.qx_attr.specs.inner.Counts.{one}
 use Rattle.qx_iofunc.specs.Fits.{NamesFit, IsLinked}
 use Rattle.qx_iofunc.specs.inner.Fits.{NamesFitBut}
 use Rattle.qx_iofunc.proofs.PlaceLemmas.{Differ, by_place, put_at, put_differ, row-freed, same_differ, set_differ}
+use Rattle.qx_types.specs.UserLimits.{UserLimits}
 use Rattle.qx_machine.specs.declared.rows.Attribute.{Attribute}
 use Rattle.qx_machine.specs.declared.rows.Ocb.{Ocb}
 use Rattle.qx_machine.specs.Inodes.{Inodes, blocks_of, close_block, free_inode, is_open, is_unused, no_inodes, with_attribute}
@@ -170,13 +171,13 @@ none_named root key leads = let both : None ≡ Some root = sym (get-empty key_c
 
 -- ---- before anything is made
 
-pub none_there : (inode : ℕ) → row_at no_inodes.attributes inode ≡ None
-none_there zero = refl
-none_there (suc inode) = refl
+pub none_there : (limits : UserLimits) (inode : ℕ) → row_at (no_inodes limits).attributes inode ≡ None
+none_there limits zero = refl
+none_there limits (suc inode) = refl
 
-pub none_fit : NamesFit no_inodes empty
-none_fit = record {
+pub none_fit : (limits : UserLimits) → NamesFit (no_inodes limits) empty
+none_fit limits = record {
   linked = λ key inode leads. absurd (none_named inode key leads);
-  used = λ inode. ap (is_unused no_inodes inode) (none_there inode);
+  used = λ inode. ap (is_unused (no_inodes limits) inode) (none_there limits inode);
   places = omega arith;
 }

@@ -32,7 +32,6 @@ use Rattle.qx_errno.specs.declared.Errno.{Errno}
 use Rattle.qx_errno.specs.declared.Errno.TheVariants.{EACCES, EEXIST, EISDIR, ENFILE, ENOENT}
 use Rattle.qx_types.specs.declared.flags.OFlags.{OFlags}
 use Rattle.qx_types.specs.declared.flags.TheConstants.OFlags.{CREAT, EXCL, TRUNC}
-use Rattle.qx_types.specs.declared.limits.TheConstants.Limits.{BLOCKS}
 use Rattle.std.specs.FinMap.{insert, get}
 use Rattle.qx_iofunc.specs.declared.found.New.{New}
 use Rattle.qx_machine.specs.declared.rows.Access.TheVariants.{Write}
@@ -144,7 +143,7 @@ module _ (r : Resources) (over : NewOpen) (inode : ℕ) (wish : Wish) where
 
 module _ (inodes now : Inodes) (inode number : ℕ) (flags : OFlags) (client : Client) (is_open : with_number now (Ok number) ≡ open_block inodes inode flags client) where
   opened_is : now ≡ with_block inodes (new_block inode flags client) (lowest_from 1 inodes.blocks)
-  opened_is = by_test (nat_le (lowest_from 1 inodes.blocks) BLOCKS) is_open
+  opened_is = by_test (nat_le (lowest_from 1 inodes.blocks) inodes.most_blocks) is_open
     where
       by_test : (few : Bool) → with_number now (Ok number) ≡ ((if few then Ok (lowest_from 1 inodes.blocks) else Err ENFILE) >>= (λ n. Ok (record { number = n; inodes = with_block inodes (new_block inode flags client) n })))
           → now ≡ with_block inodes (new_block inode flags client) (lowest_from 1 inodes.blocks)

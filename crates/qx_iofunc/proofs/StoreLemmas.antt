@@ -1,5 +1,5 @@
 -- What each change leaves of how names, inodes and the bytes of files stand together.
-use Rattle.std.proofs.Common.{◌≡◌, ◌≢◌, inl, inr, ℕ, suc, ◌+◌, ◌<◌, ◌≤◌, ◌&&◌, Bool, true, false, List, [], length, refl, sym, ap, ◌∙◌, subst, arith, Option, Some, None, Result, Ok, Err, IfOk, IsSome, option_map, replicate, slice_set}
+use Rattle.std.proofs.Common.{◌≡◌, ◌≢◌, inl, inr, ℕ, suc, ◌+◌, ◌<◌, ◌≤◌, ◌&&◌, Bool, true, false, List, [], length, le-leb, refl, sym, ap, ◌∙◌, subst, arith, Option, Some, None, Result, Ok, Err, IfOk, IsSome, option_map, replicate, slice_set}
 use Rattle.std.specs.FinMap.{empty, get, insert, remove}
 use Rattle.std.specs.Prelude.{◌-◌, OnErr, nat_lt, is_some, if◌then◌else◌}
 use Rattle.std.specs.Result.{result_map_both}
@@ -34,6 +34,7 @@ use Rattle.qx_names.specs.Paths.{HasNoPath}
 use Rattle.qx_process.proofs.RowLemmas.{with_row-none}
 use Rattle.qx_errno.specs.declared.Errno.{Errno}
 use Rattle.qx_errno.specs.declared.Errno.TheVariants.{EBADF, EMFILE, ENOSPC}
+use Rattle.qx_types.specs.UserLimits.{AreLimits, UserLimits}
 use Rattle.qx_types.specs.declared.flags.OFlags.{OFlags}
 use Rattle.qx_types.specs.declared.flags.TheConstants.OFlags.{TRUNC}
 use Rattle.qx_types.specs.declared.limits.TheConstants.Limits.{INODES, LAST_CONNECTION}
@@ -61,7 +62,7 @@ sized_but inodes now files left inode rows bytes here sized =
     by_place (λ n. bytes_at left n ≡ file_size (row_at now.attributes n)) inode here
     (λ other apart. ap (option_map (λ bytes. length bytes)) (bytes.others other apart) ∙ (sized other ∙ ap file_size (sym (rows.others other apart))))
 
-fits_but : (inodes now : Inodes) (names : Names) (files left : Files) (inode : ℕ) → NamesFit now names → Differ inodes.attributes now.attributes inode → Differ files left inode → bytes_at left inode ≡ file_size (row_at now.attributes inode) → AreSized inodes files → INODES < length files
+fits_but : (inodes now : Inodes) (names : Names) (files left : Files) (inode : ℕ) → NamesFit now names → Differ inodes.attributes now.attributes inode → Differ files left inode → bytes_at left inode ≡ file_size (row_at now.attributes inode) → AreSized inodes files → now.most_inodes < length files
     → Fits now names left
 fits_but inodes now names files left inode named rows bytes here sized room =
     let longer = bytes.longer in
@@ -76,8 +77,8 @@ kept_fits inodes names files inode was now is links size fits =
 
 -- ---- the number of the next inode
 
-number_is : (inodes : Inodes) (number : ℕ) → inode_number inodes ≡ Ok number → (number ≡ lowest_from 1 inodes.attributes) × (number ≤ INODES)
-number_is inodes number is = number_given INODES (lowest_from 1 inodes.attributes) ENOSPC number is
+number_is : (inodes : Inodes) (number : ℕ) → inode_number inodes ≡ Ok number → (number ≡ lowest_from 1 inodes.attributes) × (number ≤ inodes.most_inodes)
+number_is inodes number is = number_given inodes.most_inodes (lowest_from 1 inodes.attributes) ENOSPC number is
 
 pub number_free : (inodes : Inodes) (number : ℕ) → inode_number inodes ≡ Ok number → row_at inodes.attributes number ≡ None
 number_free inodes number is = ap (row_at inodes.attributes) (number_is inodes number is).0 ∙ lowest_from_free 1 inodes.attributes
@@ -165,15 +166,19 @@ row_at-none count n = refl
 one_more : (count : ℕ) → count < length (replicate {A = Option (List ℕ)} (count + 1) None)
 one_more count = let long = length-replicate {A = Option (List ℕ)} (count + 1) None in omega (arith, long)
 
-none_fit : Fits no_inodes empty no_files
-none_fit = record {
-  named = of_names.none_fit;
-  sized = λ inode. ap (option_map (λ bytes. length bytes)) (row_at-none (INODES + 1) inode) ∙ ap file_size (sym (of_names.none_there inode));
-  room = one_more INODES;
+none_fit : (limits : UserLimits) → AreLimits limits → Fits (no_inodes limits) empty no_files
+none_fit limits within = record {
+  named = of_names.none_fit limits;
+  sized = λ inode. ap (option_map (λ bytes. length bytes)) (row_at-none (INODES + 1) inode) ∙ ap file_size (sym (of_names.none_there limits inode));
+  room = let few = within.inodes.1 in let more = one_more INODES in omega (arith, few, more);
 }
 
-pub boot_fits : (user : ℕ) → StoreFits (boot_store user)
-boot_fits user = root_fits 1 (record { user = user; inodes = no_inodes; names = empty; files = no_files }) refl none_fit
+-- the root of the top gets the number 1
+pub first_inode : (limits : UserLimits) → AreLimits limits → inode_number (no_inodes limits) ≡ Ok 1
+first_inode limits within = ap (λ b. if b then Ok 1 else Err ENOSPC) (le-leb 1 limits.inodes within.inodes.0)
+
+pub boot_fits : (limits : UserLimits) → AreLimits limits → (user : ℕ) → StoreFits (boot_store limits user)
+boot_fits limits within user = root_fits 1 (record { user = user; inodes = no_inodes limits; names = empty; files = no_files; limits = limits }) (first_inode limits within) (none_fit limits within)
 
 -- ---- a file gets other bytes
 
@@ -313,7 +318,7 @@ own_size own attribute mine other = by_kind own attribute.kind mine other
     by_kind own kind e other = refl
 
 -- where one inode may be neither named nor open, and is a manager's own, that goes
-gone_fits : (own : Kind) (inode : ℕ) (s : Stored) → NamesFitBut s.inodes s.names inode → IsOwn s.inodes.attributes own inode → AreSized s.inodes s.files → INODES < length s.files → StoreFits (unused_gone own inode s)
+gone_fits : (own : Kind) (inode : ℕ) (s : Stored) → NamesFitBut s.inodes s.names inode → IsOwn s.inodes.attributes own inode → AreSized s.inodes s.files → s.inodes.most_inodes < length s.files → StoreFits (unused_gone own inode s)
 gone_fits own inode s named mine sized room = by_test (is_unused s.inodes inode (row_at s.inodes.attributes inode)) (of_names.freed_fits s.inodes s.names inode named)
   where
     gone : (left : Files) → Differ s.files left inode → row_at left inode ≡ None → NamesFit (record s.inodes { attributes = slice_set s.inodes.attributes inode None }) s.names → Fits (record s.inodes { attributes = slice_set s.inodes.attributes inode None }) s.names left

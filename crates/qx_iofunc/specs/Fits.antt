@@ -1,7 +1,6 @@
 -- How names, inodes and the bytes of files stand together.
 use Rattle.std.specs.Prelude.{ℕ, ◌≡◌, ◌<◌, Bool, true, false, Option, Some, None, length, option_map, if◌then◌else◌}
 use Rattle.std.specs.FinMap.{get}
-use Rattle.qx_types.specs.declared.limits.TheConstants.Limits.{INODES}
 use Rattle.qx_machine.specs.declared.rows.Attribute.{Attribute}
 use Rattle.qx_machine.specs.declared.rows.Kind.{Kind}
 use Rattle.qx_machine.specs.declared.rows.Kind.TheVariants.{File}
@@ -46,4 +45,4 @@ pub record Fits (inodes : Inodes) (names : Names) (files : Files) : Type 0 where
   -- files have the sizes that their inodes say
   pub sized : AreSized inodes files
   -- there is a place for the bytes of each inode
-  pub room : INODES < length files
+  pub room : inodes.most_inodes < length files

@@ -5,17 +5,19 @@ use Rattle.qx_machine.specs.declared.rows.Kind.{Kind}
 use Rattle.qx_machine.specs.declared.rows.Kind.TheVariants.{File}
 use Rattle.qx_machine.specs.Attributes.{root_attribute, top_inode}
 use Rattle.qx_machine.specs.Files.{Files, no_files}
-use Rattle.qx_machine.specs.Inodes.{Inodes, close_block, free_inode, is_unused}
+use Rattle.qx_machine.specs.Inodes.{Inodes, close_block, free_inode, is_unused, no_inodes}
 use Rattle.qx_machine.specs.Names.{Names, with_root}
 use Rattle.qx_machine.specs.Resources.{Resources}
 use Rattle.qx_isolation.specs.Rows.{put_row, row_at}
+use Rattle.qx_types.specs.UserLimits.{UserLimits}
 
--- a user's inodes and open control blocks, the names in all mounts, and the bytes of files
+-- a user's inodes and open control blocks, the names in all mounts, the bytes of files, and the user's limits
 pub record Stored : Type 0 where
   pub user : ℕ
   pub inodes : Inodes
   pub names : Names
   pub files : Files
+  pub limits : UserLimits
 
 -- that, for each block of a file whether it is there, and how many more inodes, and as many more open control blocks, can be made with
 -- no memory
@@ -26,17 +28,18 @@ pub record Store : Type 0 where
 
 -- what the managers keep for the user, with this in it
 abbrev pub with_stored : Resources → Stored → Resources
-with_stored r s = record r { user = s.user; inodes = s.inodes; names = s.names; files = s.files }
+with_stored r s = record r { user = s.user; inodes = s.inodes; names = s.names; files = s.files; limits = s.limits }
 
 -- ---- mounts
 
 -- the user's top with its root, which is empty, and nothing open
-abbrev pub boot_store : ℕ → Stored
-boot_store user = record {
+abbrev pub boot_store : UserLimits → ℕ → Stored
+boot_store limits user = record {
   user = user;
-  inodes = record { attributes = None ∷ Some (root_attribute user) ∷ []; blocks = None ∷ []; made = [] };
+  inodes = record (no_inodes limits) { attributes = None ∷ Some (root_attribute user) ∷ [] };
   names = with_root empty top_inode;
   files = no_files;
+  limits = limits;
 }
 
 -- the root of a mount is there

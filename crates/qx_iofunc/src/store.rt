@@ -16,7 +16,7 @@ use qx_attr::Inodes;
 use qx_files::Files;
 use qx_machine::{Attribute, Kind};
 use qx_names::Names;
-use qx_types::User;
+use qx_types::{LimitName, User, UserLimits};
 use std::alloc::{AllocError, Global};
 use std::marker::Model;
 
@@ -47,11 +47,13 @@ impl Model for Store {
 }
 
 impl Store {
-    /// A user's store at boot: the root of the user's top.
-    pub fn boot(alloc: Global, user: User) -> Result<Self, AllocError>
-        ensures boot { IfOk result (λ store. store.stored ≡ boot_store user.0) }
+    /// The store at boot of a user with these limits: the root of the user's top.
+    pub fn boot(alloc: Global, limits: UserLimits, user: User) -> Result<Self, AllocError>
+        ensures boot { IfOk result (λ store. store.stored ≡ boot_store limits user.0) }
     {
-        let mut inodes = Inodes::new(alloc)?;
+        limits.know();
+        let most_inodes = limits.get(LimitName::Inodes);
+        let mut inodes = Inodes::new(most_inodes, limits.get(LimitName::Blocks), alloc)?;
         inodes.reserve(1)?;
         inodes.add_inode(TOP_INODE, root_attribute(user));
         let mut names = Names::new(alloc);
@@ -63,6 +65,7 @@ impl Store {
                 inodes,
                 names,
                 files,
+                limits,
             },
         })
     }
@@ -72,6 +75,13 @@ impl Store {
         ensures { result.0 ≡ self.now.stored.user }
     {
         self.tables.user
+    }
+
+    /// What the user may hold.
+    pub fn limits(&self) -> UserLimits
+        ensures limits { result ≡ self.now.stored.limits }
+    {
+        self.tables.limits
     }
 
     /// The inodes and open control blocks.

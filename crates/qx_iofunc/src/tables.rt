@@ -14,7 +14,7 @@ use qx_attr::Inodes;
 use qx_files::Files;
 use qx_machine::{Attribute, Kind};
 use qx_names::{Names, Spot};
-use qx_types::User;
+use qx_types::{User, UserLimits};
 use std::alloc::AllocError;
 use std::marker::Model;
 
@@ -25,6 +25,7 @@ pub struct Tables {
     pub inodes: Inodes,
     pub names: Names,
     pub files: Files,
+    pub limits: UserLimits,
 }
 
 impl Model for Tables {
@@ -37,7 +38,7 @@ impl Model for Tables {
     ghost coded = { Prim.hlevel (codes, names_code) };
 
     ghost view = { λ t. record {
-      stored = record { user = t.user.0; inodes = t.inodes.inodes; names = t.names; files = t.files.files };
+      stored = record { user = t.user.0; inodes = t.inodes.inodes; names = t.names; files = t.files.files; limits = t.limits };
       blocks = t.files.blocks;
       room = t.inodes.room;
     } };

@@ -386,7 +386,7 @@ module _ (K : Pipes → Type 0) where
   notify-gives : (r : Resources) (over : Opened) (action : NotifyAction) (wish : PulseWish) → K r.pipes → Gives (Quiet K) (notify_block r over action wish)
   notify-gives r over action wish h =
       gives_on _ (found (row_at r.inodes.blocks over.number) EBADF) _ (λ block opened.
-      gives_on _ (notified action (event_of over wish) (conditions_at r (Some block)) r.events) _ (λ given is. gives_done _ _ (reply-quiet _ _ _ _ h)))
+      gives_on _ (notified r.limits.events action (event_of over wish) (conditions_at r (Some block)) r.events) _ (λ given is. gives_done _ _ (reply-quiet _ _ _ _ h)))
 
   seek_pipe-gives : (r : Resources) (over : Opened) (whence : Whence) (by : ℤ) → Gives (Quiet K) (seek_pipe r over whence by)
   seek_pipe-gives r over whence by = search (gives_on, gives_error)

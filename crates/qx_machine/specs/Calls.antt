@@ -1,10 +1,10 @@
 -- How a call of a thread is judged, and what it sends.
-use Rattle.std.specs.Prelude.{ℕ, ⊤, List, [], ◌&&◌, ◌||◌, Bool, true, false, Option, Some, None, Result, Ok, length, nat_le, nat_lt, count_by, is_some, sum_by}
-use Rattle.qx_types.specs.Configuration.{Configuration, name_bytes}
+use Rattle.std.specs.Prelude.{ℕ, ◌+◌, ⊤, List, [], ◌&&◌, ◌||◌, Bool, true, false, Option, Some, None, Result, Ok, length, nat_le, nat_lt, count_by, is_some, sum_by}
+use Rattle.qx_types.specs.Configuration.{Configuration, limits_of, name_bytes}
 use Rattle.qx_errno.specs.declared.Errno.{Errno}
 use Rattle.qx_errno.specs.declared.Errno.TheVariants.{EAGAIN, EBADF, EINVAL, EMFILE}
 use Rattle.qx_types.specs.declared.fields.PulseValue.TheVariants.{Bits32, Bits64}
-use Rattle.qx_types.specs.declared.limits.TheConstants.Limits.{CALLS, FIRST_CONNECTION, LAST_CONNECTION, MESSAGE, SERVERS}
+use Rattle.qx_types.specs.declared.limits.TheConstants.Limits.{CALLS, FIRST_CONNECTION, LAST_CONNECTION, MESSAGE}
 use Rattle.qx_types.specs.declared.names.Manager.{Manager}
 use Rattle.qx_types.specs.declared.names.Prio.{Prio}
 use Rattle.qx_types.specs.declared.outcome.Outcome.{Outcome}
@@ -95,13 +95,13 @@ server_count manager None = 0
 server_count manager (Some process) = count_by is_some (servers_at manager process)
 
 -- the process has a server connection in use at the manager, or the user may have one more there
-abbrev pub can_serve : List (Option Process) → Process → Manager → Bool
-can_serve processes process manager = is_some (in_use (servers_at manager process)) || nat_lt (sum_by (server_count manager) processes) SERVERS
+abbrev pub can_serve : ℕ → List (Option Process) → Process → Manager → Bool
+can_serve most processes process manager = is_some (in_use (servers_at manager process)) || nat_lt (sum_by (server_count manager) processes) most
 
 -- the lowest free connection (C Library Reference: EMFILE)
-abbrev pub free_connection : Process → Result ℕ Outcome
-free_connection process = do
-  free ← need (nat_le (lowest_from FIRST_CONNECTION process.connections) LAST_CONNECTION) (Refused EMFILE)
+abbrev pub free_connection : ℕ → Process → Result ℕ Outcome
+free_connection most process = do
+  free ← need (nat_lt (lowest_from FIRST_CONNECTION process.connections) (FIRST_CONNECTION + most)) (Refused EMFILE)
   Ok (lowest_from FIRST_CONNECTION process.connections)
 
 -- a connection that is there; one of another number never is (C Library Reference: EBADF)
@@ -117,9 +117,9 @@ place_of config user mounts path = do
   resolve config.users (name_bytes config user) mounts names
 
 -- a message to where a path leads, over a server connection of the process there (EAGAIN is this profile)
-abbrev pub to_place : List (Option Process) → Process → Resolved → Over → Prio → Result Addressed Outcome
-to_place processes process place over prio = do
-  served ← need (can_serve processes process place.manager) (Refused EAGAIN)
+abbrev pub to_place : ℕ → List (Option Process) → Process → Resolved → Over → Prio → Result Addressed Outcome
+to_place most processes process place over prio = do
+  served ← need (can_serve most processes process place.manager) (Refused EAGAIN)
   Ok (record { target = record { manager = place.manager; root = Some place.root; over = over; prio = prio }; rest = place.rest })
 
 -- a message to what a connection has open
@@ -130,17 +130,17 @@ to_connection connection over prio = record { target = record { manager = connec
 abbrev pub target_at : Configuration → ℕ → List MountPoint → List (Option Process) → Process → Prio → Address → Result Addressed Outcome
 target_at config user mounts processes process prio (Opens path) = do
   place ← or_refused (place_of config user mounts path)
-  coid ← free_connection process
-  to_place processes process place (New (record { 0 = coid })) prio
+  coid ← free_connection (limits_of config user).connections process
+  to_place (limits_of config user).servers processes process place (New (record { 0 = coid })) prio
 target_at config user mounts processes process prio (Connects path) = do
   place ← or_refused (place_of config user mounts path)
-  to_place processes process place Side prio
+  to_place (limits_of config user).servers processes process place Side prio
 target_at config user mounts processes process prio (Uses coid) = do
   connection ← connection_at coid process
   Ok (to_connection connection (Existing (record { 0 = coid })) prio)
 target_at config user mounts processes process prio (Duplicates coid) = do
   connection ← connection_at coid process
-  other ← free_connection process
+  other ← free_connection (limits_of config user).connections process
   Ok (to_connection connection (New (record { 0 = other })) prio)
 
 abbrev pub is_ready : State → Bool

@@ -1,8 +1,8 @@
 -- What a client's step does to the rows of its user.
 use Rattle.std.specs.Prelude.{ℕ, Bool, false, true, if◌then◌else◌, List, [], ◌∷◌, ◌++◌, ◌+◌, ◌&&◌, Option, Some, None, Result, Ok, Err, map, nat_le, option_map}
-use Rattle.qx_types.specs.Configuration.{Configuration, ceiling_of, name_bytes}
+use Rattle.qx_types.specs.Configuration.{Configuration, limits_of, name_bytes}
 use Rattle.qx_errno.specs.declared.Errno.TheVariants.{EAGAIN, EINTR, EINVAL, EPERM}
-use Rattle.qx_types.specs.declared.limits.TheConstants.Limits.{PROCESSES, THREADS}
+use Rattle.qx_types.specs.declared.limits.TheConstants.Limits.{THREADS}
 use Rattle.qx_types.specs.declared.names.Manager.{Manager}
 use Rattle.qx_types.specs.declared.names.Proc.{Proc}
 use Rattle.qx_types.specs.declared.names.Thread.{Thread}
@@ -27,6 +27,7 @@ use Rattle.qx_machine.specs.declared.rows.WaitingCall.{WaitingCall}
 use Rattle.qx_machine.specs.Calls.{address, bytes_of, content_of, is_ready, may_call, target_at}
 use Rattle.qx_machine.specs.Events.{first_pulse, without_first_pulse, without_pulses}
 use Rattle.qx_isolation.specs.Judgements.{◌>>=◌, found, need, or_refused}
+use Rattle.qx_types.specs.UserLimits.{UserLimits}
 use Rattle.qx_machine.specs.Mounting.{new_mount, with_mount}
 use Rattle.qx_machine.specs.Parts.{Part, Change, Put, Remove, disconnect, disconnects, thread_at, with_process, with_thread_of}
 use Rattle.qx_machine.specs.Performing.{after_answer, after_message}
@@ -47,17 +48,17 @@ may_give ceiling prio = do
   some ← need (nat_le 1 prio) (Refused EINVAL)
   need (nat_le prio ceiling) (Refused EPERM)
 
--- the number of a new process of a user with this ceiling
-abbrev pub spawn_number : ℕ → List (Option Process) → ℕ → ℕ → Result ℕ Outcome
-spawn_number ceiling processes threads prio = do
+-- the number of a new process of a user with these limits
+abbrev pub spawn_number : UserLimits → List (Option Process) → ℕ → ℕ → Result ℕ Outcome
+spawn_number limits processes threads prio = do
   valid ← need (nat_le 1 threads && nat_le threads THREADS) (Refused EINVAL)
-  allowed ← may_give ceiling prio
-  free ← need (nat_le (lowest_from 1 processes) PROCESSES) (Refused EAGAIN)
+  allowed ← may_give limits.ceiling prio
+  free ← need (nat_le (lowest_from 1 processes) limits.processes) (Refused EAGAIN)
   Ok (lowest_from 1 processes)
 
-abbrev pub spawn : ℕ → Part → ℕ → ℕ → Result ClientStep Outcome
-spawn ceiling part threads prio = do
-  number ← spawn_number ceiling part.processes threads prio
+abbrev pub spawn : UserLimits → Part → ℕ → ℕ → Result ClientStep Outcome
+spawn limits part threads prio = do
+  number ← spawn_number limits part.processes threads prio
   Ok (record { outcome = Spawned number; part = record part { processes = put_row part.processes number (new_process threads prio) }; changes = [] })
 
 -- where a call of a thread goes
@@ -207,12 +208,12 @@ mount config user part thread path manager = do
 
 -- what a client's step gives, or the outcome of one that changes nothing
 abbrev pub client_given : Configuration → ℕ → List OwnItem → Part → Step → Result ClientStep Outcome
-client_given config user held part (Spawn of_user threads prio) = spawn (ceiling_of config user) part threads prio.0
+client_given config user held part (Spawn of_user threads prio) = spawn (limits_of config user) part threads prio.0
 client_given config user held part (Exit proc) = exit part proc
 client_given config user held part (Call thread request) = call config user part thread request
 client_given config user held part (TakeReply thread) = take_reply part thread
 client_given config user held part (TakePulse proc) = take_pulse part proc
-client_given config user held part (SetPrio thread prio) = set_prio (ceiling_of config user) part thread prio.0
+client_given config user held part (SetPrio thread prio) = set_prio (limits_of config user).ceiling part thread prio.0
 client_given config user held part (Interrupt thread) = interrupt part thread
 client_given config user held part (Mount thread path manager) = mount config user part thread path manager
 client_given config user held part _ = Err WrongState

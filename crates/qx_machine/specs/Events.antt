@@ -11,7 +11,7 @@ use Rattle.qx_types.specs.declared.fields.PulseValue.{PulseValue}
 use Rattle.qx_types.specs.declared.fields.PulseValue.TheVariants.{Bits32, Bits64}
 use Rattle.qx_types.specs.declared.flags.Conds.{Conds}
 use Rattle.qx_types.specs.declared.flags.TheConstants.Conds as conds
-use Rattle.qx_types.specs.declared.limits.TheConstants.Limits.{EVENTS, PROCESSES}
+use Rattle.qx_types.specs.declared.limits.TheConstants.Limits.{PROCESSES}
 use Rattle.qx_machine.specs.declared.rows.Conditions.{Conditions}
 use Rattle.qx_machine.specs.declared.rows.Event.{Event}
 use Rattle.qx_machine.specs.declared.rows.Pulse.{Pulse}
@@ -69,10 +69,10 @@ disarmed block events = record events { armed = filter (λ event. not (is_on blo
 abbrev pub armed_anew : Event → Events → Events
 armed_anew event events = record events { armed = (disarmed event.block events).armed ++ event ∷ [] }
 
--- unless there were too many then
-abbrev pub arm_event : Event → Events → Result Events Errno
-arm_event event events = do
-  few ← need (nat_lt (event_count (disarmed event.block events)) EVENTS) EAGAIN
+-- unless there were more then than may be
+abbrev pub arm_event : ℕ → Event → Events → Result Events Errno
+arm_event most event events = do
+  few ← need (nat_lt (event_count (disarmed event.block events)) most) EAGAIN
   Ok (armed_anew event events)
 
 -- the status of a notification, and the events then
@@ -85,16 +85,16 @@ abbrev pub polled : Event → Conditions → Events → Notified
 polled event holding events = record { status = wanted_status (wanted_of event.conditions holding); events = disarmed event.block events }
 
 -- an event is armed, and the status is 0
-abbrev pub arming : Event → Events → Result Notified Errno
-arming event events = do
-  armed ← arm_event event events
+abbrev pub arming : ℕ → Event → Events → Result Notified Errno
+arming most event events = do
+  armed ← arm_event most event events
   Ok (record { status = 0; events = armed })
 
 -- POLL polls, TRANARM arms, and POLLARM polls where a wanted condition holds and else arms
-abbrev pub notified : NotifyAction → Event → Conditions → Events → Result Notified Errno
-notified Poll event holding events = Ok (polled event holding events)
-notified TranArm event holding events = arming event events
-notified PollArm event holding events = if is_any (wanted_of event.conditions holding) then Ok (polled event holding events) else arming event events
+abbrev pub notified : ℕ → NotifyAction → Event → Conditions → Events → Result Notified Errno
+notified most Poll event holding events = Ok (polled event holding events)
+notified most TranArm event holding events = arming most event events
+notified most PollArm event holding events = if is_any (wanted_of event.conditions holding) then Ok (polled event holding events) else arming most event events
 
 -- ---- pulses (C Library Reference: iofunc_notify_trigger)
 

@@ -10,11 +10,12 @@ use Rattle.qx_types.specs.declared.request.Request.{Request}
 use Rattle.qx_types.specs.declared.request.Request.TheVariants.{OpenPath, Close, Fstat}
 use Rattle.qx_types.specs.declared.step.Step.{Step}
 use Rattle.qx_types.specs.declared.step.Step.TheVariants.{Spawn, Call, TakeReply, Receive, Perform}
+use Rattle.qx_types.specs.UserLimits.{default_limits}
 use Rattle.qx_machine.specs.Runs.{Run}
 
 -- the user ann, and one worker
 abbrev pub one_user : Configuration
-one_user = record { users = (97 ∷ 110 ∷ 110 ∷ []) ∷ []; workers = 1; ceilings = 63 ∷ [] }
+one_user = record { users = (97 ∷ 110 ∷ 110 ∷ []) ∷ []; workers = 1; limits = default_limits ∷ [] }
 
 -- the first thread of ann's first process
 abbrev pub ann : Thread

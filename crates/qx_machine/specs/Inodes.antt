@@ -6,7 +6,7 @@ use Rattle.qx_errno.specs.declared.Errno.{Errno}
 use Rattle.qx_errno.specs.declared.Errno.TheVariants.{EBADF, EMFILE, ENFILE, ENOSPC}
 use Rattle.qx_types.specs.declared.flags.OFlags.{OFlags}
 use Rattle.qx_types.specs.declared.flags.TheConstants.OFlags.{READ, WRITE}
-use Rattle.qx_types.specs.declared.limits.TheConstants.Limits.{BLOCKS, INODES, LAST_CONNECTION}
+use Rattle.qx_types.specs.declared.limits.TheConstants.Limits.{LAST_CONNECTION}
 use Rattle.qx_types.specs.Managers.{manager_number}
 use Rattle.qx_machine.specs.declared.rows.Access.{Access}
 use Rattle.qx_machine.specs.declared.rows.Access.TheVariants.{Read, Write, Search}
@@ -15,16 +15,24 @@ use Rattle.qx_machine.specs.declared.rows.Client.{Client}
 use Rattle.qx_machine.specs.declared.rows.Kind.{Kind}
 use Rattle.qx_machine.specs.declared.rows.Ocb.{Ocb}
 use Rattle.qx_isolation.specs.Judgements.{◌>>=◌, found, need}
+use Rattle.qx_types.specs.UserLimits.{UserLimits}
 use Rattle.qx_isolation.specs.Rows.{row_at, lowest_from, put_row, with_row}
 
--- inodes from 1, each as its attribute, and open control blocks from 1, with the numbers of those that are there in order of making
+-- inodes from 1, each as its attribute, and open control blocks from 1, with the numbers of those that are there in order of making; and how
+-- many of both there may be
 pub record Inodes : Type 0 where
   pub attributes : List (Option Attribute)
   pub blocks : List (Option Ocb)
   pub made : List ℕ
+  pub most_inodes : ℕ
+  pub most_blocks : ℕ
 
-abbrev pub no_inodes : Inodes
-no_inodes = record { attributes = None ∷ []; blocks = None ∷ []; made = [] }
+-- none, of which there may be so many
+abbrev pub none_of : ℕ → ℕ → Inodes
+none_of most_inodes most_blocks = record { attributes = None ∷ []; blocks = None ∷ []; made = []; most_inodes = most_inodes; most_blocks = most_blocks }
+
+abbrev pub no_inodes : UserLimits → Inodes
+no_inodes limits = none_of limits.inodes limits.blocks
 
 -- whether all of some flags are among others
 abbrev pub has : OFlags → OFlags → Bool
@@ -58,11 +66,11 @@ number_within limit number error = if nat_le number limit then Ok number else Er
 
 -- the number of the next inode: the lowest free one (C Library Reference: ENOSPC)
 abbrev pub inode_number : Inodes → Result ℕ Errno
-inode_number inodes = number_within INODES (lowest_from 1 inodes.attributes) ENOSPC
+inode_number inodes = number_within inodes.most_inodes (lowest_from 1 inodes.attributes) ENOSPC
 
 -- the number of the next open control block: the lowest free one (C Library Reference: ENFILE)
 abbrev pub block_number : Inodes → Result ℕ Errno
-block_number inodes = number_within BLOCKS (lowest_from 1 inodes.blocks) ENFILE
+block_number inodes = number_within inodes.most_blocks (lowest_from 1 inodes.blocks) ENFILE
 
 -- a number that was given, and what there is then
 pub record Numbered : Type 0 where

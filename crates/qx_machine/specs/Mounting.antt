@@ -10,23 +10,25 @@ use Rattle.qx_paths.specs.Prefixes.{MountPoint, is_under}
 use Rattle.qx_machine.specs.Attributes.{root_attribute, top_inode}
 use Rattle.qx_machine.specs.Events.{no_events}
 use Rattle.qx_machine.specs.Files.{no_files}
-use Rattle.qx_machine.specs.Inodes.{inode_number}
+use Rattle.qx_machine.specs.Inodes.{inode_number, no_inodes}
 use Rattle.qx_isolation.specs.Judgements.{◌>>=◌, need}
+use Rattle.qx_types.specs.UserLimits.{UserLimits}
 use Rattle.qx_machine.specs.Names.{with_root}
 use Rattle.qx_machine.specs.Resources.{Resources}
 use Rattle.qx_isolation.specs.Rows.{put_row}
 use Rattle.qx_machine.specs.Waiting.{no_pipes}
 
 -- the top with its root, which is empty, and nothing open
-abbrev pub new_resources : ℕ → List ℕ → Resources
-new_resources user name = record {
+abbrev pub new_resources : UserLimits → ℕ → List ℕ → Resources
+new_resources limits user name = record {
   user = user;
   mounts = boot_mounts name top_inode;
-  inodes = record { attributes = None ∷ Some (root_attribute user) ∷ []; blocks = None ∷ []; made = [] };
+  inodes = record (no_inodes limits) { attributes = None ∷ Some (root_attribute user) ∷ [] };
   names = with_root empty top_inode;
   files = no_files;
   pipes = no_pipes;
   events = no_events;
+  limits = limits;
 }
 
 -- a manager's mount at a path of a user of that name: at the name or below it, where no mount is, with a root of its own (C Library
@@ -35,7 +37,7 @@ abbrev pub new_mount : List ℕ → List ℕ → Manager → Resources → Resul
 new_mount name path manager resources = do
   names ← read_path path
   own ← need (is_under name names) EACCES
-  free ← unless (mount_fault resources.mounts names) names
+  free ← unless (mount_fault resources.limits.mounts resources.mounts names) names
   root ← inode_number resources.inodes
   Ok (record { prefix = names; manager = manager; root = root })
 

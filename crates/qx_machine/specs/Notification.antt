@@ -46,7 +46,7 @@ event_of opened wish = record { process = opened.process; block = opened.number;
 abbrev pub notify_block : Resources → Opened → NotifyAction → PulseWish → Result (Deed Resources) Errno
 notify_block r opened action wish = do
   block ← found (row_at r.inodes.blocks opened.number) EBADF
-  given ← notified action (event_of opened wish) (conditions_at r (Some block)) r.events
+  given ← notified r.limits.events action (event_of opened wish) (conditions_at r (Some block)) r.events
   Ok (reply_alone given.status [] Keeps (record r { events = given.events }))
 
 -- after a step of the user, events whose wanted conditions have come to hold since before it give their pulses to the processes that live

@@ -5,7 +5,7 @@ use Rattle.qx_errno.specs.declared.Errno.TheVariants.{EBADF, EFBIG, EINVAL, EISD
 use Rattle.qx_types.specs.declared.fields.Whence.{Whence}
 use Rattle.qx_types.specs.declared.flags.OFlags.{OFlags}
 use Rattle.qx_types.specs.declared.flags.TheConstants.OFlags.{TRUNC}
-use Rattle.qx_types.specs.declared.limits.TheConstants.Limits.{FILE, FILES, OFFSET}
+use Rattle.qx_types.specs.declared.limits.TheConstants.Limits.{OFFSET}
 use Rattle.qx_machine.specs.declared.rows.Effect.TheVariants.{Keeps}
 use Rattle.qx_machine.specs.declared.rows.Opened.{Opened}
 use Rattle.qx_machine.specs.Files.{base, get, moved_by, put, total_size, write_offset}
@@ -41,8 +41,8 @@ read_file r opened count = do
 -- a write of some bytes at an offset of a file that has these: wholly or not at all
 abbrev pub written_at : Resources → ℕ → ℕ → List ℕ → ℕ → List ℕ → ℕ → Result (Deed Resources) Errno
 written_at r number inode bytes offset new moment = do
-  short ← need (nat_le (offset + length new) FILE) EFBIG
-  few ← need (nat_le (total_size (slice_set r.files inode (Some (put bytes offset new)))) FILES) ENOSPC
+  short ← need (nat_le (offset + length new) r.limits.file) EFBIG
+  few ← need (nat_le (total_size (slice_set r.files inode (Some (put bytes offset new)))) r.limits.bytes) ENOSPC
   Ok (moved number (offset + length new) (length new) [] (with_bytes inode moment (put bytes offset new) r))
 
 -- no bytes change nothing, wherever they would stand

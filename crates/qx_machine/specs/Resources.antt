@@ -7,6 +7,7 @@ use Rattle.qx_machine.specs.declared.rows.Kind.TheVariants.{Directory, File, Pip
 use Rattle.qx_machine.specs.Events.{Events}
 use Rattle.qx_machine.specs.Files.{Files}
 use Rattle.qx_machine.specs.Inodes.{Inodes}
+use Rattle.qx_types.specs.UserLimits.{UserLimits}
 use Rattle.qx_machine.specs.Names.{Names}
 use Rattle.qx_machine.specs.Pipes.{pipe_of}
 use Rattle.qx_machine.specs.Waiting.{Pipes}
@@ -21,6 +22,7 @@ pub record Resources : Type 0 where
   pub files : Files
   pub pipes : Pipes
   pub events : Events
+  pub limits : UserLimits
 
 -- ---- what is in an inode; the names in a directory stand among all names
 

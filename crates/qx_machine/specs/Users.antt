@@ -1,6 +1,6 @@
 -- What the steps do to one user's rows, from these alone: all that the machine knows of them.
 use Rattle.std.specs.Prelude.{ℕ, List, [], ◌∷◌, None}
-use Rattle.qx_types.specs.Configuration.{Configuration, name_bytes}
+use Rattle.qx_types.specs.Configuration.{Configuration, limits_of, name_bytes}
 use Rattle.qx_types.specs.declared.step.Step.{Step}
 use Rattle.qx_isolation.specs.declared.rows.OwnItem.{OwnItem}
 use Rattle.qx_isolation.specs.declared.rows.OwnItem.TheVariants.{Message, Unblock, Disconnect}
@@ -13,7 +13,7 @@ use Rattle.qx_machine.specs.Settling.{settled}
 
 -- the rows of a user at boot
 unfoldable pub boot_part : Configuration → ℕ → Part
-boot_part config user = record { processes = None ∷ []; resources = new_resources user (name_bytes config user) }
+boot_part config user = record { processes = None ∷ []; resources = new_resources (limits_of config user) user (name_bytes config user) }
 
 -- a client's step, from its user's rows and the items of that user in workers' hands
 unfoldable pub client : Configuration → ℕ → List OwnItem → Part → Step → ClientStep

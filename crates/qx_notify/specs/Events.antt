@@ -70,8 +70,8 @@ notified_after all user (Ok notified) = with_events all user notified.events
 notified_after all user (Err error) = all
 
 -- an event may be armed for a block that has none, so that there is one more
-abbrev pub wants_node : Event → Events → Bool
-wants_node event events = not (list_any (is_on event.block) events.armed) && nat_lt (event_count events) EVENTS
+abbrev pub wants_node : ℕ → Event → Events → Bool
+wants_node most event events = not (list_any (is_on event.block) events.armed) && nat_lt (event_count events) most
 
 -- a notification arms
 abbrev pub arms_event : NotifyAction → Event → Conditions → Bool

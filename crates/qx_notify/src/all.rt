@@ -10,7 +10,7 @@ use crate::conditions::{come_to_hold, is_any, number_of, pulse_value, status_of,
 use crate::lists::{UserLists, append, armed_of, find, move_to, pulses_of, take_out};
 use qx_lists::Table;
 use qx_machine::{Conditions, Event, Pulse};
-use qx_types::{Errno, Limits, NotifyAction, Proc, PulseValue, User};
+use qx_types::{Errno, NotifyAction, Proc, PulseValue, User};
 use std::alloc::{AllocError, Global};
 use std::marker::Model;
 
@@ -99,25 +99,36 @@ impl AllEvents {
         status_of(wanted_of(event.conditions, holding))
     }
 
-    /// Arms an event as the newest, in place of what its block had armed (C Library Reference: `iofunc_notify`,
-    /// `_NOTIFY_ACTION_TRANARM`). EAGAIN where there are too many, and nothing changes then. An event takes the node of the
-    /// one that goes; only where none goes it wants memory.
-    pub fn arm(&mut self, user: User, event: Event) -> Result<Result<(), Errno>, AllocError>
+    /// Arms an event of a user who may have so many as the newest, in place of what its block had armed (C Library Reference:
+    /// `iofunc_notify`, `_NOTIFY_ACTION_TRANARM`). EAGAIN where there are as many beside what goes, and nothing changes then.
+    /// An event takes the node of the one that goes; only where none goes it wants memory.
+    pub fn arm(
+        &mut self,
+        most: usize,
+        user: User,
+        event: Event,
+    ) -> Result<Result<(), Errno>, AllocError>
+        requires few { most ≤ EVENTS }
         requires user { user.0 < length self.old.events }
         requires process { event.process ≤ PROCESSES }
-        ensures judged { IfOk result (λ given. given ≡ armed_outcome (machine.arm_event event (events_of self.old user.0))) }
-        ensures armed { OnOk result (self.new ≡ events_after self.old user.0 (machine.arm_event event (events_of self.old user.0))) }
+        ensures judged { IfOk result (λ given. given ≡ armed_outcome (machine.arm_event most event (events_of self.old user.0))) }
+        ensures armed { OnOk result (self.new ≡ events_after self.old user.0 (machine.arm_event most event (events_of self.old user.0))) }
         ensures err { OnErr result (self.new ≡ self.old) }
-        ensures sure { IsFalse (wants_node event (events_of self.old user.0)) → IsOk result }
+        ensures sure { IsFalse (wants_node most event (events_of self.old user.0)) → IsOk result }
         ensures had_room { 0 < self.old.room → IsOk result }
     {
         self.table.know();
         let armed = armed_of(&self.lists, user);
+        let count = self.counts[user.0 as usize];
         if let Some(node) = find(&self.table, armed, event.block) {
+            // the one that goes is not counted
+            if count > most {
+                return Ok(Err(Errno::EAGAIN));
+            }
             move_to(&mut self.table, armed, node, armed, event);
             return Ok(Ok(()));
         }
-        if self.counts[user.0 as usize] >= Limits::EVENTS {
+        if count >= most {
             return Ok(Err(Errno::EAGAIN));
         }
         append(&mut self.table, armed, event)?;
@@ -125,21 +136,23 @@ impl AllEvents {
         Ok(Ok(()))
     }
 
-    /// What a client's notification does, with its status: POLL polls, TRANARM arms, and POLLARM polls where a wanted
+    /// What the notification of a user who may have so many events does, with its status: POLL polls, TRANARM arms, and POLLARM polls where a wanted
     /// condition holds and else arms (C Library Reference: `iofunc_notify`). EAGAIN as `arm` gives it.
     pub fn notify(
         &mut self,
+        most: usize,
         user: User,
         action: NotifyAction,
         event: Event,
         holding: Conditions,
     ) -> Result<Result<u64, Errno>, AllocError>
+        requires few { most ≤ EVENTS }
         requires user { user.0 < length self.old.events }
         requires process { event.process ≤ PROCESSES }
-        ensures judged { IfOk result (λ given. given ≡ status_given (machine.notified action event holding (events_of self.old user.0))) }
-        ensures notified { OnOk result (self.new ≡ notified_after self.old user.0 (machine.notified action event holding (events_of self.old user.0))) }
+        ensures judged { IfOk result (λ given. given ≡ status_given (machine.notified most action event holding (events_of self.old user.0))) }
+        ensures notified { OnOk result (self.new ≡ notified_after self.old user.0 (machine.notified most action event holding (events_of self.old user.0))) }
         ensures err { OnErr result (self.new ≡ self.old) }
-        ensures sure { IsFalse (arms_event action event holding && wants_node event (events_of self.old user.0)) → IsOk result }
+        ensures sure { IsFalse (arms_event action event holding && wants_node most event (events_of self.old user.0)) → IsOk result }
         ensures had_room { 0 < self.old.room → IsOk result }
     {
         let arms = match action {
@@ -150,7 +163,7 @@ impl AllEvents {
         if !arms {
             return Ok(Ok(self.poll(user, event, holding)));
         }
-        match self.arm(user, event)? {
+        match self.arm(most, user, event)? {
             Ok(()) => Ok(Ok(0)),
             Err(errno) => Ok(Err(errno)),
         }

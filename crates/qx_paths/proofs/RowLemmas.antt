@@ -101,9 +101,9 @@ module _ (places : ℕ) (rows : List Row) (capacity : ℕ) (h : IsTable places r
     room = h.room;
   }
 
-pub no-fault : (mounts : List MountPoint) (path : List (List ℕ)) → mount_fault mounts path ≡ None → length mounts < MOUNTS
-no-fault mounts path none = by (list_any (is_at path) mounts) (nat_lt (length mounts) MOUNTS) (ltb-true (length mounts) MOUNTS) none where
-  by : (at less : Bool) → (less ≡ true → length mounts < MOUNTS) → (if at then Some EEXIST else if less then None else Some ENOSPC) ≡ None → length mounts < MOUNTS
+pub no_fault : (most : ℕ) (mounts : List MountPoint) (path : List (List ℕ)) → mount_fault most mounts path ≡ None → length mounts < most
+no_fault most mounts path none = by (list_any (is_at path) mounts) (nat_lt (length mounts) most) (ltb-true (length mounts) most) none where
+  by : (at less : Bool) → (less ≡ true → length mounts < most) → (if at then Some EEXIST else if less then None else Some ENOSPC) ≡ None → length mounts < most
   by true less is e = absurd (cc)
   by false true is e = is refl
   by false false is e = absurd (cc)
@@ -145,8 +145,8 @@ empty-next root (name ∷ names) (suc count) = empty-next root names count
 pub begun-empty : (root : ℕ) (names : List (List ℕ)) (count : ℕ) → mounts_of ([] ∷ begun root names count) (count + 1) ≡ []
 begun-empty root names count = subst (λ user. mounts_of ([] ∷ begun root names count) user ≡ []) (one_more count) (empty-next root names count)
 
-pub begun-free : (root : ℕ) (names path : List (List ℕ)) (count : ℕ) → mount_fault (mounts_of ([] ∷ begun root names count) (count + 1)) path ≡ None
-begun-free root names path count = ap (λ mounts. mount_fault mounts path) (begun-empty root names count)
+pub begun-fewer : (root : ℕ) (names : List (List ℕ)) (count : ℕ) → length (mounts_of ([] ∷ begun root names count) (count + 1)) < MOUNTS
+begun-fewer root names count = let none = ap length (begun-empty root names count) in omega (arith, none)
 
 more-begun : (root : ℕ) (names : List (List ℕ)) (count : ℕ) → count < length names → slice_set (begun root names count) count (boot_mounts (get_or names count []) root) ≡ begun root names (suc count)
 more-begun root [] count within = absurd (omega (arith, within))

@@ -5,7 +5,6 @@ use Rattle.std.specs.Str.{bytes_eq}
 use Rattle.qx_types.specs.Configuration.{Configuration}
 use Rattle.qx_errno.specs.declared.Errno.{Errno}
 use Rattle.qx_errno.specs.declared.Errno.TheVariants.{EACCES, EEXIST, ENOENT, ENOSPC}
-use Rattle.qx_types.specs.declared.limits.TheConstants.Limits.{MOUNTS}
 use Rattle.qx_types.specs.declared.names.Manager.{Manager}
 use Rattle.qx_types.specs.declared.names.Manager.TheVariants.{Ram}
 use Rattle.qx_paths.specs.Prefixes.{MountPoint, behind, is_at}
@@ -54,11 +53,11 @@ located None (Some place) = Ok place
 abbrev pub resolve : List (List ℕ) → List ℕ → List MountPoint → List (List ℕ) → Result Resolved Errno
 resolve names own mounts path = located (top_fault names own path) (longest path None 0 mounts)
 
--- why a mount at a path is refused: one is there, or else there are as many as a user may have (this profile)
-abbrev pub mount_fault : List MountPoint → List (List ℕ) → Option Errno
-mount_fault mounts path =
+-- why a mount at a path is refused: one is there, or else there are as many as the user may have (this profile)
+abbrev pub mount_fault : ℕ → List MountPoint → List (List ℕ) → Option Errno
+mount_fault most mounts path =
     if list_any (is_at path) mounts then Some EEXIST
-    else if nat_lt (length mounts) MOUNTS then None
+    else if nat_lt (length mounts) most then None
     else Some ENOSPC
 
 -- a manager is attached at a path, after the mounts that are there (C Library Reference: resmgr_attach)

@@ -1,8 +1,9 @@
-ghost use Rattle.std.specs.Prelude.{◌≡◌, ◌<◌, List, IfOk, OnErr, OnOk, None, Some, length};
+ghost use Rattle.std.specs.Prelude.{◌≡◌, ◌<◌, ◌≤◌, List, IfOk, OnErr, OnOk, Some, length};
 ghost use Rattle.std.specs.List.{list_any};
 ghost use Rattle.std.specs.Result.{result_err};
 ghost use Rattle.std.specs.Str.{bytes_eq};
 ghost use Rattle.qx_types.specs.Configuration.{name_bytes};
+ghost use Rattle.qx_types.specs.declared.limits.TheConstants.Limits.{MOUNTS};
 ghost use Rattle.qx_paths.specs.Mounts.{all_boot_mounts, fit, longer, longest, mount_fault, mounts_of, name_fault, resolve, top_fault, with_mount_of};
 ghost use Rattle.qx_paths.specs.Prefixes.{is_at};
 ghost use Rattle.qx_paths.specs.inner.Rows.{own};
@@ -60,39 +61,48 @@ impl Mounts {
         Ok(mounts)
     }
 
-    /// Why a user's mount at a path is refused: EEXIST where one is there, or else ENOSPC where the user has 8.
-    pub fn fault(&self, user: User, path: &Path<'_>) -> Option<Errno>
-        ensures fault { result ≡ mount_fault (mounts_of self.now user.0) path.now }
+    /// Why a mount at a path is refused of a user who may have so many: EEXIST where one is there, or else ENOSPC where the
+    /// user has as many.
+    pub fn fault(&self, most: usize, user: User, path: &Path<'_>) -> Option<Errno>
+        ensures fault { result ≡ mount_fault most (mounts_of self.now user.0) path.now }
     {
         if has_at(&self.rows, user, path) {
             Some(Errno::EEXIST)
-        } else if count(&self.rows, user) < Limits::MOUNTS {
+        } else if count(&self.rows, user) < most {
             None
         } else {
             Some(Errno::ENOSPC)
         }
     }
 
-    /// Attaches a user's manager at a path, under the user's next number (C Library Reference: `resmgr_attach`). The errors of
-    /// `fault`; nothing changes then. Wants no memory.
-    pub fn add(&mut self, user: User, path: &Path<'_>, mount: Mount) -> Result<(), Errno>
+    /// Attaches a manager at a path for a user who may have so many, under the user's next number (C Library Reference:
+    /// `resmgr_attach`). The errors of `fault`; nothing changes then. Wants no memory.
+    #[tactic(auto, using(crate::proofs::RowLemmas::no_fault))]
+    pub fn add(
+        &mut self,
+        most: usize,
+        user: User,
+        path: &Path<'_>,
+        mount: Mount,
+    ) -> Result<(), Errno>
+        requires few { most ≤ MOUNTS }
         requires user { user.0 < length self.old }
         requires path { mount.prefix ≡ path.now }
-        ensures refused { result_err result ≡ mount_fault (mounts_of self.old user.0) path.now }
+        ensures refused { result_err result ≡ mount_fault most (mounts_of self.old user.0) path.now }
         ensures mounted { OnOk result (self.new ≡ with_mount_of self.old user.0 mount) }
         ensures err { OnErr result (self.new ≡ self.old) }
     {
-        if let Some(errno) = self.fault(user, path) {
+        if let Some(errno) = self.fault(most, user, path) {
             return Err(errno);
         }
         self.push(user, mount);
         Ok(())
     }
 
-    /// Attaches a user's manager where nothing refuses it.
+    /// Attaches a user's manager where there is room for it.
     fn push(&mut self, user: User, mount: Mount)
         requires user { user.0 < length self.old }
-        requires free { mount_fault (mounts_of self.old user.0) mount.prefix ≡ None }
+        requires fewer { length (mounts_of self.old user.0) < MOUNTS }
         ensures mounted { self.new ≡ with_mount_of self.old user.0 mount }
     {
         self.rows.push_reserved(Row { user, mount });

@@ -67,6 +67,7 @@ fn open_found(
         return Ok(store.open(own, over.client, lookup, wish)?.number);
     };
     let user = store.user();
+    store.inodes().numbered();
     if shared.has_pipe(user, new.inode) {
         let blank = shared.blank(device)?;
         let opening = store.open(own, over.client, lookup, wish)?;

@@ -1,7 +1,7 @@
 //! Laws of scripts that are run: what their traces say, and what of others is in what they show.
 
 ghost use Rattle.std.specs.Prelude.{◌≡◌, ◌++◌, ◌∷◌, [], ℕ, All, List, map};
-ghost use Rattle.qx_types.specs.Configuration.{Configuration, HasCeilings, IsConfiguration};
+ghost use Rattle.qx_types.specs.Configuration.{Configuration, HasLimits, IsConfiguration};
 ghost use Rattle.qx_types.specs.declared.names.User.{User};
 ghost use Rattle.qx_types.specs.declared.step.Step.{Step};
 ghost use Rattle.qx_machine.specs.Runs.{erase, received, run};
@@ -16,13 +16,14 @@ ghost use Rattle.qx_play.specs.Printed.{transcript_text};
 /// All steps that a script takes, those of its `serve` and `do` lines too, are such that a line can say them.
 pub fn played_steps_can_be_said()
     ensures configured { (text : List ℕ) (config : Configuration) (commands : List Command) → script text ≡ Good config commands → IsConfiguration config.users config.workers }
-    ensures ceilings { (text : List ℕ) (config : Configuration) (commands : List Command) → script text ≡ Good config commands → HasCeilings config }
+    ensures limits { (text : List ℕ) (config : Configuration) (commands : List Command) → script text ≡ Good config commands → HasLimits config }
     ensures said { (text : List ℕ) (config : Configuration) (commands : List Command) → script text ≡ Good config commands → All (CanSay config.users) (played config commands).steps }
 {}
 
-/// The steps of a trace, with the users, their ceilings and the number of workers before them, are a script that takes the same steps.
+/// The steps of a trace, with the users, their ceilings and limits and the number of workers before them, are a script that
+/// takes the same steps.
 pub fn trace_replayed()
-    ensures script { (config : Configuration) (steps : List Step) → IsConfiguration config.users config.workers → HasCeilings config → All (CanSay config.users) steps → script (replay_text config steps) ≡ Good config (map Take steps) }
+    ensures script { (config : Configuration) (steps : List Step) → IsConfiguration config.users config.workers → HasLimits config → All (CanSay config.users) steps → script (replay_text config steps) ≡ Good config (map Take steps) }
     ensures steps { (config : Configuration) (steps : List Step) → (played config (map Take steps)).steps ≡ steps }
 {}
 

@@ -4,7 +4,7 @@ ghost use Rattle.std.specs.Prelude.{IsSome, ◌≡◌, ◌∷◌, ◌<◌, ◌�
 ghost use Rattle.std.specs.Option.{option_copied, option_copied_mut};
 ghost use Rattle.std.specs.Borrow.{sem};
 ghost use Rattle.std.specs.List.{list_any, sum_by};
-ghost use Rattle.qx_types.specs.declared.limits.TheConstants.Limits.{PROCESSES, THREADS};
+ghost use Rattle.qx_types.specs.declared.limits.TheConstants.Limits.{PROCESSES, SERVERS, THREADS};
 ghost use Rattle.qx_machine.specs.Calls as calls;
 ghost use Rattle.qx_machine.specs.Clients as clients;
 ghost use Rattle.qx_machine.specs.Processes.{ended, living, new_process, with_connection, without_connection, with_side};
@@ -16,7 +16,7 @@ ghost use Rattle.qx_machine.specs.Parts.{connection_of, thread_of};
 use qx_hint::as_mut_unchecked;
 use qx_machine::{Connection, ServerName};
 use qx_process::{LostServers, Process, ThreadCell, places};
-use qx_types::{Coid, Errno, Limits, Manager, Outcome, Prio};
+use qx_types::{Coid, Errno, LimitName, Limits, Manager, Outcome, Prio, UserLimits};
 use std::alloc::{AllocError, Global};
 use std::marker::Model;
 
@@ -122,18 +122,19 @@ impl Processes {
     }
 
     /// The number of a new process of 1 to 4 threads of a priority from 1 to the user's ceiling, the lowest free one. EINVAL
-    /// for other numbers, EPERM for a priority above the ceiling, then EAGAIN where there are 16 processes.
-    pub fn spawn_number(&self, ceiling: Prio, threads: u8, prio: Prio) -> Result<u8, Outcome>
-        ensures number { result ≡ clients.spawn_number ceiling.0 self.now threads prio.0 }
+    /// for other numbers, EPERM for a priority above the ceiling, then EAGAIN where the user has as many processes as may be.
+    pub fn spawn_number(&self, limits: &UserLimits, threads: u8, prio: Prio) -> Result<u8, Outcome>
+        ensures number { result ≡ clients.spawn_number limits.now self.now threads prio.0 }
+        ensures few { IfOk result (λ number. number ≤ PROCESSES) }
         ensures lowest { IsOk result → 1 ≤ prio.0 }
     {
         let is_valid = 1 <= threads && threads <= Limits::THREADS;
         if !is_valid {
             return Err(Outcome::Refused(Errno::EINVAL));
         }
-        may_give(ceiling, prio)?;
+        may_give(limits.ceiling(), prio)?;
         let number = places::lowest_free(self.rows.as_slice(), 1);
-        if number > Limits::PROCESSES {
+        if number > limits.get(LimitName::Processes) {
             return Err(Outcome::Refused(Errno::EAGAIN));
         }
         Ok(number as u8)
@@ -141,16 +142,21 @@ impl Processes {
 
     /// Starts a process of so many ready threads of a priority, under the number that `spawn_number` gives, and is refused
     /// as that is (C Library Reference: `spawn`). A spawn that is refused wants no memory.
-    pub fn spawn(&mut self, ceiling: Prio, threads: u8, prio: Prio) -> Result<Outcome, AllocError>
-        ensures outcome { IfOk result (λ outcome. outcome ≡ spawn_outcome (clients.spawn_number ceiling.0 self.old threads prio.0)) }
-        ensures rows { OnOk result (self.new ≡ spawned self.old threads prio.0 (clients.spawn_number ceiling.0 self.old threads prio.0)) }
+    pub fn spawn(
+        &mut self,
+        limits: &UserLimits,
+        threads: u8,
+        prio: Prio,
+    ) -> Result<Outcome, AllocError>
+        ensures outcome { IfOk result (λ outcome. outcome ≡ spawn_outcome (clients.spawn_number limits.now self.old threads prio.0)) }
+        ensures rows { OnOk result (self.new ≡ spawned self.old threads prio.0 (clients.spawn_number limits.now self.old threads prio.0)) }
         ensures place { 0 < length self.old }
-        ensures sure { IsErr (clients.spawn_number ceiling.0 self.old threads prio.0) → IsOk result }
+        ensures sure { IsErr (clients.spawn_number limits.now self.old threads prio.0) → IsOk result }
         ensures err { OnErr result (self.new ≡ self.old) }
     {
         // there is a place for number 0
         let _ = &self.rows;
-        match self.spawn_number(ceiling, threads, prio) {
+        match self.spawn_number(limits, threads, prio) {
             Ok(number) => {
                 self.start(number, threads, prio)?;
                 Ok(Outcome::Spawned(number))
@@ -188,11 +194,11 @@ impl Processes {
         Outcome::Done
     }
 
-    /// Whether a process has a server connection in use at a manager, or the user fewer than 64 there.
-    pub fn can_serve(&self, process: &Process, manager: Manager) -> bool
-        ensures served { result ≡ calls.can_serve self.now process.now manager }
+    /// Whether a process has a server connection in use at a manager, or the user fewer there than may be.
+    pub fn can_serve(&self, most: usize, process: &Process, manager: Manager) -> bool
+        ensures served { result ≡ calls.can_serve most self.now process.now manager }
     {
-        process.is_served(manager) || self.server_count(manager) < Limits::SERVERS
+        process.is_served(manager) || self.server_count(manager) < most
     }
 
     /// How many server connections the user has at a manager, those whose disconnect pulse was made among them.
@@ -209,15 +215,21 @@ impl Processes {
     }
 
     /// A new connection of a process to a manager, under the lowest free number from 3; the server connection there is used
-    /// or made (C Library Reference: `ConnectAttach`). `WrongState` where there is no such process, EMFILE where no
-    /// connection is free, EAGAIN where the user has 64 server connections at the manager and the process none in use.
+    /// or made (C Library Reference: `ConnectAttach`). `WrongState` where there is no such process, EMFILE where it has as many
+    /// connections as may be, EAGAIN where the user has as many server connections at the manager and the process none in use.
     #[tactic(auto, using(crate::proofs::ServeLemmas::new_connection))]
-    pub fn attach(&mut self, process: u8, manager: Manager) -> Result<Coid, Outcome>
-        ensures coid { result ≡ new_connection_number self.old process manager }
+    pub fn attach(
+        &mut self,
+        limits: &UserLimits,
+        process: u8,
+        manager: Manager,
+    ) -> Result<Coid, Outcome>
+        ensures coid { result ≡ new_connection_number limits.now self.old process manager }
         ensures ok { IfOk result (λ coid. self.new ≡ with_row self.old process (with_connection coid.0 manager)) }
         ensures err { OnErr result (self.new ≡ self.old) }
     {
-        let coid = self.new_coid(process, manager)?;
+        limits.know();
+        let coid = self.new_coid(limits, process, manager)?;
         if let Some(row) = self.process_mut(process) {
             row.attach(coid, manager);
         }
@@ -225,17 +237,17 @@ impl Processes {
     }
 
     /// The number of a new connection.
-    fn new_coid(&self, process: u8, manager: Manager) -> Result<Coid, Outcome>
-        ensures coid { result ≡ new_connection_number self.now process manager }
+    fn new_coid(&self, limits: &UserLimits, process: u8, manager: Manager) -> Result<Coid, Outcome>
+        ensures coid { result ≡ new_connection_number limits.now self.now process manager }
     {
         let Some(row) = self.process(process) else {
             return Err(Outcome::WrongState);
         };
         let number = row.free_connection();
-        if number > Limits::LAST_CONNECTION {
+        if number >= Limits::FIRST_CONNECTION + limits.get(LimitName::Connections) {
             return Err(Outcome::Refused(Errno::EMFILE));
         }
-        if !self.can_serve(row, manager) {
+        if !self.can_serve(limits.get(LimitName::Servers), row, manager) {
             return Err(Outcome::Refused(Errno::EAGAIN));
         }
         Ok(Coid(number as u8))
@@ -253,11 +265,18 @@ impl Processes {
 
     /// A side connection of a thread to a manager, which has no number; the server connection there is used or made (C
     /// Library Reference: `_NTO_SIDE_CHANNEL`). `WrongState` where the thread is not there or has a side connection, EAGAIN
-    /// where the user has 64 server connections at the manager and the process none in use.
+    /// where the user has so many server connections at the manager and the process none in use.
     #[tactic(auto, using(crate::proofs::ServeLemmas::can_attach))]
-    pub fn attach_side(&mut self, process: u8, thread: u8, manager: Manager) -> Outcome
-        ensures outcome { result ≡ done_or (with_new_side self.old process thread manager) }
-        ensures rows { self.new ≡ after_or self.old (with_new_side self.old process thread manager) }
+    pub fn attach_side(
+        &mut self,
+        servers: usize,
+        process: u8,
+        thread: u8,
+        manager: Manager,
+    ) -> Outcome
+        requires few { servers ≤ SERVERS }
+        ensures outcome { result ≡ done_or (with_new_side servers self.old process thread manager) }
+        ensures rows { self.new ≡ after_or self.old (with_new_side servers self.old process thread manager) }
     {
         let Some(row) = self.process(process) else {
             return Outcome::WrongState;
@@ -265,7 +284,7 @@ impl Processes {
         if row.thread(thread).is_none() || row.side(thread).is_some() {
             return Outcome::WrongState;
         }
-        if !self.can_serve(row, manager) {
+        if !self.can_serve(servers, row, manager) {
             return Outcome::Refused(Errno::EAGAIN);
         }
         if let Some(row) = self.process_mut(process) {

@@ -5,6 +5,7 @@ use Rattle.qx_errno.specs.declared.Errno.{Errno}
 use Rattle.qx_errno.specs.declared.Errno.TheVariants.{EBADF}
 use Rattle.qx_types.specs.declared.flags.TheConstants.OFlags.{WRITE}
 use Rattle.qx_types.specs.declared.limits.TheConstants.Limits.{FILES}
+use Rattle.qx_types.specs.UserLimits.{UserLimits}
 use Rattle.qx_attr.specs.Flags.{block_for}
 use Rattle.qx_files.specs.Blocks.{LacksBlock}
 use Rattle.qx_files.specs.Files.{FileLacksBlock, Kept, pasted}
@@ -34,8 +35,8 @@ total_after files inode offset bytes new is =
     omega (arith, set, within, long)
 
 -- the sum stays within its limit where nothing is refused
-pub few_after : (files : Files) (inode offset : ℕ) (bytes new : List ℕ) → row_at files inode ≡ Some bytes → write_fault (total_size files) (length bytes) offset (length new) ≡ None → total_size (pasted files inode offset new) ≤ FILES
-few_after files inode offset bytes new is none = rw (is, total_after files inode offset bytes new is) (grind arith)
+pub few_after : (limits : UserLimits) (files : Files) (inode offset : ℕ) (bytes new : List ℕ) → row_at files inode ≡ Some bytes → write_fault limits (total_size files) (length bytes) offset (length new) ≡ None → limits.bytes ≤ FILES → total_size (pasted files inode offset new) ≤ FILES
+few_after limits files inode offset bytes new is none few = rw (is, total_after files inode offset bytes new is) (grind arith)
 
 -- a fault, or else what is done
 abbrev pub answered : Option Errno → Deed Resources → Result (Deed Resources) Errno
@@ -43,7 +44,7 @@ answered None deed = Ok deed
 answered (Some error) deed = Err error
 
 -- a write of some bytes is judged by its fault alone
-pub written : (r : Resources) (opened : Opened) (new : List ℕ) {inodes : Inodes} {files : Files} {block : Ocb} {bytes : List ℕ} {offset : ℕ} {fault : Option Errno} → inodes ≡ r.inodes → files ≡ r.files → Ok block ≡ block_for inodes opened.number WRITE → Some bytes ≡ row_at files block.inode → false ≡ (length new == 0) → offset ≡ write_offset block bytes → fault ≡ write_fault (total_size files) (length bytes) offset (length new) → answered fault (moved opened.number (offset + length new) (length new) [] (with_bytes block.inode opened.moment (put bytes offset new) r)) ≡ write_file r opened new
+pub written : (r : Resources) (opened : Opened) (new : List ℕ) {inodes : Inodes} {files : Files} {block : Ocb} {bytes : List ℕ} {offset : ℕ} {fault : Option Errno} → inodes ≡ r.inodes → files ≡ r.files → Ok block ≡ block_for inodes opened.number WRITE → Some bytes ≡ row_at files block.inode → false ≡ (length new == 0) → offset ≡ write_offset block bytes → fault ≡ write_fault r.limits (total_size files) (length bytes) offset (length new) → answered fault (moved opened.number (offset + length new) (length new) [] (with_bytes block.inode opened.moment (put bytes offset new) r)) ≡ write_file r opened new
 written r opened new same_inodes same_files is has_bytes some begins faults = grind (arith, total_after)
 
 -- what wants memory, once it is known what the write goes to

@@ -16,7 +16,7 @@ use qx_files::{Data, Files};
 use qx_iofunc::Store;
 use qx_machine::{Ocb, Opened};
 use qx_process::Reply;
-use qx_types::{Errno, Limits, OFlags, Whence};
+use qx_types::{Errno, LimitName, Limits, OFlags, UserLimits, Whence};
 use std::alloc::AllocError;
 
 /// Writes the bytes from where an open control block stands, at most so many, into a reply, and gives their number (C Library
@@ -38,8 +38,8 @@ pub fn read(store: &mut Store, opened: Opened, count: u32, reply: &mut Reply) ->
 }
 
 /// Writes bytes where an open control block stands, or with APPEND at the end, and gives their number; a gap is filled with
-/// zero bytes (C Library Reference: `write`). EBADF without a block for writing, EFBIG past 65,536 bytes, ENOSPC where the
-/// user's files would have more than 1,048,576 bytes together. Where an error comes or memory is short, nothing changes;
+/// zero bytes (C Library Reference: `write`). EBADF without a block for writing, EFBIG past as many bytes as the user's file may
+/// have, ENOSPC where the user's files would have more together than they may. Where an error comes or memory is short, nothing changes;
 /// memory is wanted only where no error comes and one of the bytes stands in a block that isn't there, which reads as zero
 /// bytes then.
 #[tactic(auto, using(qx_files::proofs::SizeLemmas::size_within, crate::proofs::WriteLemmas::few_after))]
@@ -68,7 +68,7 @@ pub fn write(
         return Ok(Ok(0));
     }
     let offset = write_offset(block, data);
-    if let Some(error) = write_fault(files, data, offset, new.len()) {
+    if let Some(error) = write_fault(store.limits(), files, data, offset, new.len()) {
         return Ok(Err(error));
     }
     store.write(block.inode, offset as usize, new, opened.moment)?;
@@ -121,16 +121,23 @@ fn write_offset(block: Ocb, bytes: &Data) -> u64
 }
 
 // Why so many bytes can't be written at an offset of a file that has these, one of the user's files: EFBIG or ENOSPC.
-fn write_fault(files: &Files, bytes: &Data, offset: u64, count: usize) -> Option<Errno>
+fn write_fault(
+    limits: UserLimits,
+    files: &Files,
+    bytes: &Data,
+    offset: u64,
+    count: usize,
+) -> Option<Errno>
     requires count { count ≤ TRANSFER }
     requires size { length bytes.now.bytes ≤ total_size files.now.files }
-    ensures { result ≡ write_fault (total_size files.now.files) (length bytes.now.bytes) offset count }
+    ensures { result ≡ write_fault limits (total_size files.now.files) (length bytes.now.bytes) offset count }
 {
-    if offset > Limits::FILE as u64 || offset as usize + count > Limits::FILE {
+    let file = limits.get(LimitName::File);
+    if offset > file as u64 || offset as usize + count > file {
         return Some(Errno::EFBIG);
     }
     let after = bytes.len().max(offset as usize + count);
-    if files.total() - bytes.len() + after > Limits::FILES {
+    if files.total() - bytes.len() + after > limits.get(LimitName::Bytes) {
         return Some(Errno::ENOSPC);
     }
     None

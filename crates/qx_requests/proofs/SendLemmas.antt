@@ -1,6 +1,7 @@
 -- What is judged can be sent: what the message goes over can be attached.
 use Rattle.std.specs.Prelude.{IfOk, Ok, Option, Result, Some}
-use Rattle.std.proofs.Common.{◌≡◌, ℕ, Bool, true, false, List, refl, sym}
+use Rattle.std.proofs.Common.{◌≡◌, ◌≤◌, ℕ, Bool, true, false, List, refl, sym}
+use Rattle.qx_types.specs.declared.limits.TheConstants.Limits.{SERVERS}
 use Rattle.qx_types.specs.declared.names.Prio.{Prio}
 use Rattle.qx_errno.specs.declared.Errno.TheVariants.{EAGAIN}
 use Rattle.qx_types.specs.declared.outcome.Outcome.{Outcome}
@@ -21,7 +22,7 @@ placed : (P : Addressed → Type 0) (serves : Bool) (addressed : Addressed) → 
 placed P true addressed p = p refl
 placed P false addressed p = tt
 
-pub place_attaches : (processes : List (Option Process)) (process : Process) (place : Resolved) (over : Over) (prio : Prio) (given : Result Addressed Outcome) → given ≡ to_place processes process place over prio
+pub place_attaches : (servers : ℕ) (processes : List (Option Process)) (process : Process) (place : Resolved) (over : Over) (prio : Prio) (given : Result Addressed Outcome) → given ≡ to_place servers processes process place over prio → servers ≤ SERVERS
     → (number : ℕ) → Some process ≡ row_at processes number → (HasPlace (servers_at place.manager process) → CanAttach process place.manager over) → IfOk given (λ addressed. CanAttachAt (row_at processes number) addressed.target)
-place_attaches processes process place over prio given is number there attaches =
-    rw (is, ← there) (placed (λ addressed. CanAttachAt (Some process) addressed.target) _ _ (λ serves. attaches (can_attach processes number process place.manager (sym there) serves)))
+place_attaches servers processes process place over prio given is few number there attaches =
+    rw (is, ← there) (placed (λ addressed. CanAttachAt (Some process) addressed.target) _ _ (λ serves. attaches (can_attach servers processes number process place.manager few (sym there) serves)))

@@ -1,7 +1,7 @@
 //! How a call of a thread is judged, by the mounts and the processes of its user.
 
 ghost use Rattle.std.specs.Prelude.{◌≡◌, ◌<◌, ◌≤◌, IsTrue, IfOk, None, Some, if◌then◌else◌, option_map, true};
-ghost use Rattle.qx_types.specs.declared.limits.TheConstants.Limits.{LAST_CONNECTION};
+ghost use Rattle.qx_types.specs.declared.limits.TheConstants.Limits.{CONNECTIONS, LAST_CONNECTION};
 ghost use Rattle.qx_wire.specs.Rests.{is_rest};
 ghost use Rattle.qx_paths.specs.Mounts.{mounts_of};
 ghost use Rattle.qx_machine.specs.declared.rows.State.TheVariants.{Ready};
@@ -22,7 +22,7 @@ use qx_machine::{Addressed, Connection, Over, Target};
 use qx_paths::{Mounts, Path, Resolved, read_path};
 use qx_process::{Process, ThreadCell};
 use qx_procs::Processes;
-use qx_types::{Coid, Config, Errno, Limits, Prio, Request, Thread, User};
+use qx_types::{Coid, Config, Errno, LimitName, Limits, Prio, Request, Thread, User};
 
 /// Where a call of a thread goes, by the mounts and the processes of its user, or the outcome of one that sends nothing:
 /// `WrongState` where the thread is not there or not ready; then EINVAL for fields out of their ranges, EAGAIN where the
@@ -65,7 +65,8 @@ pub fn target_by<'a>(
         }
         Request::Dup { coid } => {
             let connection = connection_at(process, *coid)?;
-            let other = Coid(free_connection(process)?);
+            let limits = config.limits(thread.proc.user);
+            let other = Coid(free_connection(limits.get(LimitName::Connections), process)?);
             Ok(to_connection(connection, Over::New(other), prio))
         }
         Request::Read { coid, .. }
@@ -106,12 +107,14 @@ fn by_path<'a>(
     ensures target { result ≡ calls.target_at config.now thread.proc.user.0 (mounts_of mounts.now thread.proc.user.0) processes.now process.now prio (if is_opened then Opens path.now else Connects path.now) }
 {
     let place = place_of(config, thread.proc.user, mounts, path)?;
+    let limits = config.limits(thread.proc.user);
     let over = if is_opened {
-        Over::New(Coid(free_connection(process)?))
+        Over::New(Coid(free_connection(limits.get(LimitName::Connections), process)?))
     } else {
         Over::Side
     };
-    Ok(to_place(processes, process, place, over, prio)?)
+    let servers = limits.get(LimitName::Servers);
+    Ok(to_place(servers, processes, process, place, over, prio)?)
 }
 
 /// Whether a thread may make a call with these fields.
@@ -148,17 +151,18 @@ fn place_of<'a>(
     Ok(place)
 }
 
-/// A message to where a path leads.
+/// A message to where a path leads, of a user who may have so many server connections at a manager.
 fn to_place<'a>(
+    servers: usize,
     processes: &Processes,
     process: &Process,
     place: Resolved<'a>,
     over: Over,
     prio: Prio,
 ) -> Result<Addressed<'a>, Refusal>
-    ensures { result ≡ calls.to_place processes.now process.now place.entry over prio }
+    ensures { result ≡ calls.to_place servers processes.now process.now place.entry over prio }
 {
-    if !processes.can_serve(process, place.manager) {
+    if !processes.can_serve(servers, process, place.manager) {
         return Err(Refusal::refused(Errno::EAGAIN));
     }
     Ok(Addressed {
@@ -203,14 +207,15 @@ fn connection_at(process: &Process, coid: Coid) -> Result<Connection, Refusal>
     }
 }
 
-/// The number of a connection that is free.
-fn free_connection(process: &Process) -> Result<u8, Refusal>
+/// The number of a connection that is free, of a process that may have so many.
+fn free_connection(most: usize, process: &Process) -> Result<u8, Refusal>
+    requires few { most ≤ CONNECTIONS }
     ensures number { IfOk result (λ coid. coid ≤ LAST_CONNECTION) }
     ensures unused { IfOk result (λ coid. row_at process.now.connections coid ≡ None) }
-    ensures free { result ≡ calls.free_connection process.now }
+    ensures free { result ≡ calls.free_connection most process.now }
 {
     let number = process.free_connection();
-    if number > Limits::LAST_CONNECTION {
+    if number >= Limits::FIRST_CONNECTION + most {
         return Err(Refusal::refused(Errno::EMFILE));
     }
     Ok(number as u8)

@@ -40,7 +40,7 @@ use Rattle.qx_shared.specs.Shared.{Shared, pipes_of}
 
 -- what is kept for a user, with this of it in a store
 abbrev pub kept_with : Stored → Kept
-kept_with s = record { user = s.user; inodes = s.inodes; names = s.names; files = s.files }
+kept_with s = record { user = s.user; inodes = s.inodes; names = s.names; files = s.files; limits = s.limits }
 
 -- what all share, of these parts
 abbrev pub tables_of : Shared → AllEvents → List (List MountPoint) → Tables

@@ -8,7 +8,6 @@ use Rattle.std.proofs.lemmas.List.{get_or-set_same}
 use Rattle.qx_errno.specs.declared.Errno.{Errno}
 use Rattle.qx_types.specs.declared.fields.NotifyAction.{NotifyAction}
 use Rattle.qx_types.specs.declared.fields.NotifyAction.TheVariants.{Poll, PollArm, TranArm}
-use Rattle.qx_types.specs.declared.limits.TheConstants.Limits.{EVENTS}
 use Rattle.qx_machine.specs.declared.rows.Conditions.{Conditions}
 use Rattle.qx_machine.specs.declared.rows.Effect.TheVariants.{Keeps}
 use Rattle.qx_machine.specs.declared.rows.Event.{Event}
@@ -40,7 +39,7 @@ none-on block (event ∷ events) none = elim (cases_Bool (is_on block event)) [
   | inr off ↦ rw off (ap (λ rest. event ∷ rest) (none-on block events (rw off at none)))
 ]
 
-module _ (event : Event) (events : Events) (wants : wants_node event events ≡ true) where
+module _ (most : ℕ) (event : Event) (events : Events) (wants : wants_node most event events ≡ true) where
   none : list_any (is_on event.block) events.armed ≡ false
   none = elim (cases_Bool (list_any (is_on event.block) events.armed)) [
     | inl any ↦ let clash : false ≡ true = rw any at wants in absurd (cc)
@@ -50,19 +49,19 @@ module _ (event : Event) (events : Events) (wants : wants_node event events ≡ 
   same : disarmed event.block events ≡ events
   same = ap (λ armed. record events { armed = armed }) (none-on event.block events.armed none)
 
-  few : event_count events < EVENTS
-  few = let test : nat_lt (event_count events) EVENTS ≡ true = (and_parts (not (list_any (is_on event.block) events.armed)) (nat_lt (event_count events) EVENTS) wants).1 in grind (arith, nat_tests)
+  few : event_count events < most
+  few = let test : nat_lt (event_count events) most ≡ true = (and_parts (not (list_any (is_on event.block) events.armed)) (nat_lt (event_count events) most) wants).1 in grind (arith, nat_tests)
 
   more : nat_lt (event_count events) (event_count (armed_anew event events)) ≡ true
   more =
       let count : event_count (armed_anew event events) ≡ event_count events + 1 = ap (λ (e : Events). event_count (record events { armed = e.armed ++ event ∷ [] })) same ∙ search (length-append, arith) in
       grind (arith, nat_tests)
 
-  armed : arming event events ≡ Ok (record { status = 0; events = armed_anew event events })
-  armed = rw (arm-few event events (subst (λ (e : Events). event_count e < EVENTS) (sym same) few)) refl
+  armed : arming most event events ≡ Ok (record { status = 0; events = armed_anew event events })
+  armed = rw (arm-few most event events (subst (λ (e : Events). event_count e < most) (sym same) few)) refl
 
   -- what arms then leaves more events
-  pub arms-more : (action : NotifyAction) (holding : Conditions) → arms_event action event holding ≡ true → notified action event holding events ≡ Ok (record { status = 0; events = armed_anew event events })
+  pub arms-more : (action : NotifyAction) (holding : Conditions) → arms_event action event holding ≡ true → notified most action event holding events ≡ Ok (record { status = 0; events = armed_anew event events })
   arms-more Poll holding arms = absurd (cc)
   arms-more TranArm holding arms = armed
   arms-more PollArm holding arms = elim (cases_Bool (is_any (wanted_of event.conditions holding))) [
@@ -74,16 +73,16 @@ module _ (r : Resources) (opened : Opened) (block : Ocb) (action : NotifyAction)
   abbrev event : Event
   event = event_of opened wish
 
-  pub notify-wanted : (arms_event action event (conditions_at r (Some block)) && wants_node event r.events) ≡ true → IsTrue (is_done_so got_events r (notify_block r opened action wish))
+  pub notify-wanted : (arms_event action event (conditions_at r (Some block)) && wants_node r.limits.events event r.events) ≡ true → IsTrue (is_done_so got_events r (notify_block r opened action wish))
   notify-wanted both =
-      let parts = and_parts (arms_event action event (conditions_at r (Some block))) (wants_node event r.events) both in
-      rw (there, arms-more event r.events parts.1 action (conditions_at r (Some block)) parts.0) (more event r.events parts.1)
+      let parts = and_parts (arms_event action event (conditions_at r (Some block))) (wants_node r.limits.events event r.events) both in
+      rw (there, arms-more r.limits.events event r.events parts.1 action (conditions_at r (Some block)) parts.0) (more r.limits.events event r.events parts.1)
 
 -- ---- what becomes of the events
 
 module _ (k : Kept) (w : Tables) (opened : Opened) (block : Ocb) (action : NotifyAction) (wish : PulseWish) (there : row_at k.inodes.blocks opened.number ≡ Some block) (has : HasUser k w) where
   abbrev meant : Result Notified Errno
-  meant = notified action (event_of opened wish) (conditions_at (told k w) (Some block)) (events_of w.events k.user)
+  meant = notified k.limits.events action (event_of opened wish) (conditions_at (told k w) (Some block)) (events_of w.events k.user)
 
   abbrev left_by : Result Notified Errno → Tables
   left_by meant = record w { events = notified_after w.events k.user meant }

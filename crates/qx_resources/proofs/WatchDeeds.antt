@@ -6,7 +6,7 @@ use Rattle.qx_errno.specs.declared.Errno.{Errno}
 use Rattle.qx_errno.specs.declared.Errno.TheVariants.{EBADF, EFBIG, EINVAL, EISDIR, ENOSPC}
 use Rattle.qx_types.specs.declared.fields.Whence.{Whence}
 use Rattle.qx_types.specs.declared.flags.OFlags.{OFlags}
-use Rattle.qx_types.specs.declared.limits.TheConstants.Limits.{FILE, FILES, OFFSET}
+use Rattle.qx_types.specs.declared.limits.TheConstants.Limits.{OFFSET}
 use Rattle.qx_types.specs.declared.outcome.Outcome.TheVariants.{WrongState}
 use Rattle.qx_machine.specs.declared.rows.Event.{Event}
 use Rattle.qx_machine.specs.declared.rows.Ocb.{Ocb}
@@ -147,8 +147,8 @@ read_file-settled r over count =
 
 written-settled : (r : Resources) (number inode : ℕ) (bytes : List ℕ) (offset : ℕ) (new : List ℕ) (moment : ℕ) (block : Ocb) → row_at r.inodes.blocks number ≡ Some block → Gives (λ deed. IsSettledAt r number deed.state) (written_at r number inode bytes offset new moment)
 written-settled r number inode bytes offset new moment block is =
-    gives_on _ (need (nat_le (offset + length new) FILE) EFBIG) _ (λ short is_short.
-    gives_on _ (need (nat_le (total_size (slice_set r.files inode (Some (put bytes offset new)))) FILES) ENOSPC) _ (λ few is_few.
+    gives_on _ (need (nat_le (offset + length new) r.limits.file) EFBIG) _ (λ short is_short.
+    gives_on _ (need (nat_le (total_size (slice_set r.files inode (Some (put bytes offset new)))) r.limits.bytes) ENOSPC) _ (λ few is_few.
     gives_done _ _ (moved-settled r _ number _ (only-moved (offset + length new)) block is refl refl refl)))
 
 pub write_file-settled : (r : Resources) (over : Opened) (new : List ℕ) → Gives (λ deed. IsSettledAt r over.number deed.state) (write_file r over new)

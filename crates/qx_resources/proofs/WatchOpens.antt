@@ -6,7 +6,6 @@ use Rattle.qx_errno.specs.declared.Errno.{Errno}
 use Rattle.qx_errno.specs.declared.Errno.TheVariants.{EISDIR, ENOSPC, EACCES, EEXIST, ENOENT, ENFILE}
 use Rattle.qx_types.specs.declared.flags.OFlags.{OFlags}
 use Rattle.qx_types.specs.declared.flags.TheConstants.OFlags.{CREAT, EXCL, TRUNC}
-use Rattle.qx_types.specs.declared.limits.TheConstants.Limits.{BLOCKS, INODES}
 use Rattle.qx_machine.specs.declared.rows.Attribute.{Attribute}
 use Rattle.qx_machine.specs.declared.rows.Kind.{Kind}
 use Rattle.qx_machine.specs.declared.rows.Kind.TheVariants.{Directory, File}
@@ -83,7 +82,7 @@ record IsMade (inodes : Inodes) (made : Numbered) : Type 0 where
 inode-gives : (inodes : Inodes) (attribute : Attribute) → Gives (IsMade inodes) (new_inode inodes attribute)
 inode-gives inodes attribute =
     gives_on _ (inode_number inodes) _ (λ number is.
-    gives_done _ _ (record { free = ap (row_at inodes.attributes) (sym (within-is INODES (lowest_from 1 inodes.attributes) ENOSPC number is)) ∙ lowest_from_free 1 inodes.attributes; blocks = refl }))
+    gives_done _ _ (record { free = ap (row_at inodes.attributes) (sym (within-is inodes.most_inodes (lowest_from 1 inodes.attributes) ENOSPC number is)) ∙ lowest_from_free 1 inodes.attributes; blocks = refl }))
 
 -- the blocks are as before, and so are the pipes that they have open
 record IsReady (r s : Resources) : Type 0 where
@@ -113,7 +112,7 @@ opened-still : (r s : Resources) (over : NewOpen) (flags : OFlags) (inode : ℕ)
 opened-still r s over flags inode ready =
     gives_by (λ (block : Numbered). Grows r (record s { inodes = block.inodes })) _ (open_block s.inodes inode flags over.client) _
     (gives_on _ (block_number s.inodes) _ (λ number is.
-    gives_done _ _ (put-grows r s number _ ready (ap (row_at s.inodes.blocks) (sym (within-is BLOCKS (lowest_from 1 s.inodes.blocks) ENFILE number is)) ∙ lowest_from_free 1 s.inodes.blocks))))
+    gives_done _ _ (put-grows r s number _ ready (ap (row_at s.inodes.blocks) (sym (within-is s.inodes.most_blocks (lowest_from 1 s.inodes.blocks) ENFILE number is)) ∙ lowest_from_free 1 s.inodes.blocks))))
     (λ block grows. gives_done _ _ (grows-still r _ grows))
 
 ready-same : (r : Resources) → IsReady r r

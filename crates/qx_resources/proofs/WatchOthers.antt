@@ -122,7 +122,7 @@ chmod-still r over mode =
 pub notify-still : (r : Resources) (over : Opened) (action : NotifyAction) (wish : PulseWish) → GivesStill r (notify_block r over action wish)
 notify-still r over action wish =
     gives_on _ (found (row_at r.inodes.blocks over.number) EBADF) _ (λ block opened.
-    gives_on _ (notified action (event_of over wish) (conditions_at r (Some block)) r.events) _ (λ given is. gives_done _ _ (same-still r (record r { events = given.events }) refl refl)))
+    gives_on _ (notified r.limits.events action (event_of over wish) (conditions_at r (Some block)) r.events) _ (λ given is. gives_done _ _ (same-still r (record r { events = given.events }) refl refl)))
 
 pub seek_pipe-still : (r : Resources) (over : Opened) (whence : Whence) (by : ℤ) → GivesStill r (seek_pipe r over whence by)
 seek_pipe-still r over whence by =

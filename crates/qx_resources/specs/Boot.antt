@@ -7,7 +7,7 @@ use Rattle.qx_resources.specs.State.{Kept}
 
 -- the machine's resources, but what stands in tables of all users
 abbrev pub kept_of : Resources → Kept
-kept_of r = record { user = r.user; inodes = r.inodes; names = r.names; files = r.files }
+kept_of r = record { user = r.user; inodes = r.inodes; names = r.names; files = r.files; limits = r.limits }
 
 -- for the users from this one on
 abbrev pub boot_resources : Configuration → ℕ → List (List ℕ) → List (Option Kept)

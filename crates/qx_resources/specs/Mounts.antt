@@ -10,7 +10,7 @@ use Rattle.qx_resources.specs.State.{Kept}
 
 -- beside these mounts of the user nothing refuses a mount at its prefix, and its root is the next inode
 pub record IsNextMount (mounts : List MountPoint) (resources : Kept) (mount : MountPoint) : Type 0 where
-  pub free : mount_fault mounts mount.prefix ≡ None
+  pub free : mount_fault resources.limits.mounts mounts mount.prefix ≡ None
   pub next : inode_number resources.inodes ≡ Ok mount.root
 
 -- a root is there

@@ -1,6 +1,7 @@
 -- What the managers keep for a user, and how it stands together with what all users share, in which calls and events wait.
 use Rattle.std.specs.Prelude.{ℕ, ◌≡◌, ◌<◌, List, length}
 use Rattle.qx_types.specs.Configuration.{Configuration}
+use Rattle.qx_types.specs.UserLimits.{UserLimits}
 use Rattle.qx_types.specs.declared.outcome.Answer.{Answer}
 use Rattle.qx_paths.specs.Mounts.{all_boot_mounts, mounts_of}
 use Rattle.qx_machine.specs.declared.rows.WaitingCall.{WaitingCall}
@@ -20,6 +21,7 @@ pub record Kept : Type 0 where
   pub inodes : Inodes
   pub names : Names
   pub files : Files
+  pub limits : UserLimits
 
 -- at boot: nothing waits, and each user has the top
 abbrev pub boot_tables : Configuration → Tables
@@ -27,7 +29,7 @@ boot_tables config = record { shared = nothing_shared (length config.users); eve
 
 -- a user's resources, with the mounts, the pipes and the events that the user has in the tables of all users
 abbrev pub told : Kept → Tables → Resources
-told k w = record { user = k.user; mounts = mounts_of w.mounts k.user; inodes = k.inodes; names = k.names; files = k.files; pipes = pipes_of w.shared k.user; events = events_of w.events k.user }
+told k w = record { user = k.user; mounts = mounts_of w.mounts k.user; inodes = k.inodes; names = k.names; files = k.files; pipes = pipes_of w.shared k.user; events = events_of w.events k.user; limits = k.limits }
 
 -- the user has a place in the tables
 pub record HasUser (k : Kept) (w : Tables) : Type 0 where

@@ -19,7 +19,7 @@ use qx_attr::Status;
 use qx_machine::{Effect, Event, NewDup, Opened, PulseWish};
 use qx_process::Reply;
 use qx_resmgr::Done;
-use qx_types::{Coid, Errno, NotifyAction};
+use qx_types::{Coid, Errno, LimitName, NotifyAction};
 use qx_wire::Rest;
 use std::alloc::AllocError;
 
@@ -134,8 +134,9 @@ pub fn notify(
         code: wish.code,
         value: wish.value,
     };
+    let most = state.store.limits().get(LimitName::Events);
     let told = tables
         .events
-        .notify(state.store.user(), action, event, holding)?;
+        .notify(most, state.store.user(), action, event, holding)?;
     Ok(told.map(Done::keeps))
 }

@@ -1,6 +1,6 @@
 //! What the managers keep for a user, and what messages do to it.
 
-ghost use Rattle.std.specs.Prelude.{◌≡◌, Ok, is_ok, IsSome, IsTrue, IfNone, IfOk, IfSome, OnErr, OnOk};
+ghost use Rattle.std.specs.Prelude.{◌≡◌, ◌≤◌, Ok, is_ok, IsSome, IsTrue, IfNone, IfOk, IfSome, OnErr, OnOk};
 ghost use Rattle.qx_machine.specs.Inodes.{inode_number};
 ghost use Rattle.qx_machine.specs.Mounting as mounting;
 ghost use Rattle.qx_machine.specs.Performing as performing;
@@ -18,6 +18,7 @@ ghost use Rattle.qx_resources.specs.Told.{manager_with, told_by};
 ghost use Rattle.qx_resources.specs.inner.State.{IsCallerReceived};
 ghost use Rattle.qx_resources.specs.declared.tables.Tables.{Tables as AllTables};
 ghost use Rattle.qx_shared.specs.Shared.{shared_after, state_after};
+ghost use Rattle.qx_types.specs.declared.limits.TheConstants.Limits.{MOUNTS};
 ghost use Rattle.qx_types.specs.declared.names.Manager.TheVariants as managers;
 
 use crate::pipe::Pipe;
@@ -29,7 +30,7 @@ use qx_machine::{Caller, Context, Opened, Over, Target};
 use qx_paths::{Mounts, Path, read_path};
 use qx_process::{Process, Reply, Room};
 use qx_resmgr::{Done, serve};
-use qx_types::{Coid, Config, Errno, Manager, NoMemory, Thread, User};
+use qx_types::{Coid, Config, Errno, LimitName, Manager, NoMemory, Thread, User};
 use qx_wire::{Meaning, Message};
 use std::alloc::{AllocError, Global};
 use std::marker::Model;
@@ -50,7 +51,7 @@ impl Model for Resources {
 
     ghost coded = { Prim.hlevel (codes, names_code) };
 
-    ghost view = { λ r. record { user = r.store.stored.user; inodes = r.store.stored.inodes; names = r.store.stored.names; files = r.store.stored.files } };
+    ghost view = { λ r. record { user = r.store.stored.user; inodes = r.store.stored.inodes; names = r.store.stored.names; files = r.store.stored.files; limits = r.store.stored.limits } };
 }
 
 /// A mount that is judged and not made yet: its path, its manager, and the inode that its root will have.
@@ -75,13 +76,13 @@ impl Resources {
         ensures { IfOk result (λ resources. resources ≡ kept_of (boot_part config.now user.0).resources) }
     {
         Ok(Resources {
-            store: Store::boot(alloc, user)?,
+            store: Store::boot(alloc, config.limits(user), user)?,
         })
     }
 
     /// A manager's mount at a path of the user of that name, beside the mounts of all users, with the lowest free inode for its
     /// root (C Library Reference: `resmgr_attach`). The errors of `read_path`; EACCES for a path that is neither the name nor
-    /// below it, whoever has its first name; EEXIST where a mount is; ENOSPC where the user has 8 mounts or 1,024 inodes.
+    /// below it, whoever has its first name; EEXIST where a mount is; ENOSPC where the user has as many mounts or inodes as may be.
     pub fn new_mount<'a>(
         &self,
         mounts: &Mounts,
@@ -96,7 +97,7 @@ impl Resources {
         if !path.is_under(name) {
             return Err(Errno::EACCES);
         }
-        if let Some(errno) = mounts.fault(self.store.user(), &path) {
+        if let Some(errno) = mounts.fault(self.most_mounts(), self.store.user(), &path) {
             return Err(errno);
         }
         let root = self.store.inodes().inode_number()?;
@@ -105,6 +106,14 @@ impl Resources {
             manager,
             root,
         })
+    }
+
+    /// How many mounts the user may have.
+    pub fn most_mounts(&self) -> usize
+        ensures most { result ≡ self.now.limits.mounts }
+        ensures few { result ≤ MOUNTS }
+    {
+        self.store.limits().get(LimitName::Mounts)
     }
 
     /// Makes the root of a mount that is judged.

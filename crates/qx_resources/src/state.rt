@@ -14,12 +14,13 @@ impl Model for Told {
     ghost use Rattle.qx_machine.specs.Mounting.{new_resources};
     ghost use Rattle.qx_machine.specs.Resources as machine;
     ghost use Rattle.qx_names.specs.Paths.{names_code};
+    ghost use Rattle.qx_types.specs.UserLimits.{default_limits};
 
     ghost Value = { machine.Resources };
 
     ghost coded = { Prim.hlevel (codes, names_code) };
 
-    ghost view = { λ _. new_resources 0 [] };
+    ghost view = { λ _. new_resources default_limits 0 [] };
 }
 
 impl State<Tables, Told> for Resources {

@@ -1,29 +1,36 @@
--- The lines of steps, after those of users, ceilings and workers, are a script that takes these steps.
-use Rattle.std.proofs.Common.{◌≡◌, ◌∙◌, ℕ, ◌+◌, ◌<◌, ◌≤◌, Bool, true, false, eqb, leb, ltb, not, List, [], ◌∷◌, ◌++◌, Option, Some, None, length, get_or, map, slice_set, ◌-◌, refl, ap, sym, subst, arith, append_assoc, append-nil, suc}
-use Rattle.std.specs.Prelude.{◌&&◌, ◌||◌, All, is_none}
-use Rattle.std.specs.List.{join_with_byte, list_all, list_any}
+-- The lines of steps, after those of users, of what is set for them and of workers, are a script that takes these steps.
+use Rattle.std.proofs.Common.{◌≡◌, ◌∙◌, ℕ, ◌+◌, ◌-◌, ◌<◌, ◌≤◌, Bool, true, false, eqb, leb, ltb, not, List, [], ◌∷◌, ◌++◌, Option, Some, None, length, get_or, map, replicate, slice_set, refl, ap, sym, subst, arith, append_assoc, append-nil, suc}
+use Rattle.std.specs.Prelude.{◌&&◌, ◌||◌, All}
+use Rattle.std.specs.List.{AllByRecursion, join_with_byte, list_all, list_any}
 use Rattle.std.specs.Str.{bytes_eq}
 use Rattle.std.proofs.Math.Seq.{get_or-append_seam}
 use Rattle.std.proofs.lemmas.Bool.Decides.{nat_tests}
 use Rattle.std.proofs.lemmas.Grind.{common_steps}
-use Rattle.std.proofs.lemmas.List.{get_or_append_left, length_push, map_push}
-use Rattle.std.proofs.lemmas.List.Elements.{All-head, All-tail}
+use Rattle.std.proofs.lemmas.List.{get_or_append_left, length_push}
+use Rattle.std.proofs.lemmas.List.Elements.{All-append, All-from_recursion, All-head, All-nil, All-tail}
 use Rattle.std.proofs.lemmas.List.Splits.{slice_split_at, slice_split_none}
 use Rattle.std.proofs.lemmas.Slice.Eq.{bytes_eq-Decides}
-use Rattle.qx_types.specs.Configuration.{Configuration, HasCeilings, IsConfiguration, is_user_name}
+use Rattle.qx_types.specs.Configuration.{Configuration, HasLimits, IsConfiguration, is_user_name, limits_of}
+use Rattle.qx_types.specs.UserLimits.{AreLimits, UserLimits, in_ranges, default_limits, most_of}
+use Rattle.qx_types.specs.declared.user_limits.LimitName.{LimitName}
+use Rattle.qx_types.specs.declared.user_limits.LimitName.TheVariants.{Processes, Connections, Servers, Blocks, Inodes, File, Bytes, Mounts, Events}
+use Rattle.qx_types.proofs.LimitLemmas.{in_ranges_same, default_within}
 use Rattle.qx_types.specs.Optional.{◌>>=◌}
-use Rattle.qx_types.specs.declared.limits.TheConstants.Limits.{PRIORITY, USERS, WORKERS}
+use Rattle.qx_types.specs.declared.limits.TheConstants.Limits.{USERS, WORKERS}
 use Rattle.qx_types.specs.declared.names.User.{User}
 use Rattle.qx_types.specs.declared.step.Step.{Step}
 use Rattle.qx_script.specs.declared.command.Command.{Command}
 use Rattle.qx_script.specs.declared.command.Command.TheVariants.{Take}
 use Rattle.qx_calls.specs.Forms.{CanBeSaid, Saying, line_text, words_said}
-use Rattle.qx_script.specs.Lines.{CanSay, ceiling_line, step_said, user_line, workers_line}
-use Rattle.qx_script.specs.Replay.{ceiling_lines, ceiling_said, replay_lines, replay_text, user_said, workers_said}
-use Rattle.qx_script.specs.Script.{Bad, Good, Reading, Script, after_line, after_words, ceiling_set, is_new_user, place_of, script, script_from, unread, with_ceiling, with_command, with_user, with_workers}
+use Rattle.qx_script.specs.Lines.{CanSay, ceiling_line, limit_line, step_said, user_line, workers_line}
+use Rattle.qx_script.specs.Replay.{replay_lines, replay_text, said_by, setting_of, setting_said, settings_from, settings_of, user_said, workers_said}
+use Rattle.qx_script.specs.Settings.{CanBeSet, configured, greatest, is_allowed, limit_number, set_by, set_to, sets_same}
+use Rattle.qx_script.specs.declared.setting.Setting.{Setting}
+use Rattle.qx_script.proofs.SettingLemmas.{configured_more, in_range, set_within}
+use Rattle.qx_script.specs.Script.{Bad, Good, Reading, Script, after_line, after_words, is_new_user, script, script_from, unread, with_command, with_setting, with_user, with_workers}
 use Rattle.qx_script.specs.StepText.{step_text}
 use Rattle.qx_words.specs.Kinds.{is_word, is_word_byte}
-use Rattle.qx_words.specs.Words.{greatest_byte, lines_of}
+use Rattle.qx_words.specs.Words.{greatest_byte, greatest_of_four_bytes, lines_of}
 use Rattle.qx_words.proofs.PlainWords.{all_joined, all_weaker, and_true, both_true, none_passes}
 use Rattle.qx_script.proofs.ReadBack.{line_in_words, name_is_word, read_back}
 use Rattle.qx_calls.proofs.ReadForms.{are_words, line_again, text_in_words}
@@ -84,25 +91,45 @@ users_in_lines config (name ∷ names) more valid good rest =
     (said_in_line config (user_said name) valid refl (All-head (λ name. is_user_name name ≡ true) name names good, tt))
     (users_in_lines config names more valid (All-tail (λ name. is_user_name name ≡ true) name names good) rest)
 
-abbrev IsCeiling : ℕ → Type 0
-IsCeiling ceiling = (1 ≤ ceiling) × (ceiling ≤ PRIORITY)
+setting_text : Configuration → Setting → List ℕ
+setting_text config setting = line_text config (setting_said setting)
 
-ceilings_in_lines : (config : Configuration) (user : ℕ) (ceilings : List ℕ) (more : List (List ℕ)) → IsConfiguration config.users config.workers → 1 ≤ user → user + length ceilings ≤ length config.users + 1
-    → All IsCeiling ceilings → list_all (list_all is_in_line) more ≡ true → list_all (list_all is_in_line) (ceiling_lines config user ceilings ++ more) ≡ true
-ceilings_in_lines config user [] more valid some few good rest = rest
-ceilings_in_lines config user (prio ∷ ceilings) more valid some few good rest =
-    and_true (list_all is_in_line (line_text config (ceiling_said user prio))) _
-    (said_in_line config (ceiling_said user prio) valid refl ((some, omega (arith, few)), ((All-head IsCeiling prio ceilings good).1, tt)))
-    (ceilings_in_lines config (suc user) ceilings more valid (omega arith) (omega (arith, few)) (All-tail IsCeiling prio ceilings good) rest)
+-- a setting has a line
+name_of_setting : (user : User) (limit : Option LimitName) (value : ℕ) → is_word (said_by user limit value).name ≡ true
+name_of_setting user None value = refl
+name_of_setting user (Some limit) value = refl
+
+can_say_setting : (users : List (List ℕ)) (user : User) (limit : Option LimitName) (value : ℕ) → 1 ≤ user.0 → user.0 ≤ length users → value ≤ greatest limit → CanBeSaid users (said_by user limit value)
+can_say_setting users user None value some within few = ((some, within), (omega (arith, few), tt))
+can_say_setting users user (Some limit) value some within few = ((some, within), (tt, (most_fits limit value few, tt)))
+  where
+    most_fits : (limit : LimitName) (value : ℕ) → value ≤ most_of limit → value ≤ greatest_of_four_bytes
+    most_fits Processes value few = omega (arith, few)
+    most_fits Connections value few = omega (arith, few)
+    most_fits Servers value few = omega (arith, few)
+    most_fits Blocks value few = omega (arith, few)
+    most_fits Inodes value few = omega (arith, few)
+    most_fits File value few = omega (arith, few)
+    most_fits Bytes value few = omega (arith, few)
+    most_fits Mounts value few = omega (arith, few)
+    most_fits Events value few = omega (arith, few)
+
+can_say : (config : Configuration) (setting : Setting) → CanBeSet (length config.users) setting → CanBeSaid config.users (setting_said setting)
+can_say config setting can = can_say_setting config.users setting.user setting.limit setting.value can.some can.within (in_range setting can.allowed).1
+
+settings_in_lines : (config : Configuration) (settings : List Setting) (more : List (List ℕ)) → IsConfiguration config.users config.workers → All (CanBeSet (length config.users)) settings
+    → list_all (list_all is_in_line) more ≡ true → list_all (list_all is_in_line) (map (setting_text config) settings ++ more) ≡ true
+unfolding setting_text
+settings_in_lines config [] more valid each rest = rest
+settings_in_lines config (setting ∷ settings) more valid each rest =
+    and_true (list_all is_in_line (line_text config (setting_said setting))) _
+    (said_in_line config (setting_said setting) valid (name_of_setting setting.user setting.limit setting.value) (can_say config setting (All-head (CanBeSet (length config.users)) setting settings each)))
+    (settings_in_lines config settings more valid (All-tail (CanBeSet (length config.users)) setting settings each) rest)
 
 -- users
 
--- none has a ceiling yet
-abbrev unset : {A : Type 0} → List A → List (Option ℕ)
-unset users = map (λ _. None) users
-
-naming : List (List ℕ) → List (Option ℕ) → Reading
-naming users ceilings = record { users = users; ceilings = ceilings; workers = None; commands = [] }
+naming : List (List ℕ) → List Setting → Reading
+naming users settings = record { users = users; settings = settings; workers = None; commands = [] }
 
 or_false : (a b : Bool) → a ≡ false → b ≡ false → (a || b) ≡ false
 or_false true b p q = cc
@@ -113,9 +140,9 @@ none_equal test [] none = refl
 none_equal test (name ∷ names) none =
     or_false (test name) (list_any test names) (none 0 (omega arith)) (none_equal test names (λ k below. none (suc k) (omega arith)))
 
-new_user : (done : List (List ℕ)) (name : List ℕ) (rest : List (List ℕ)) (workers : ℕ) → IsConfiguration (done ++ name ∷ rest) workers → (ceilings : List (Option ℕ)) → is_new_user (naming done ceilings) name ≡ true
+new_user : (done : List (List ℕ)) (name : List ℕ) (rest : List (List ℕ)) (workers : ℕ) → IsConfiguration (done ++ name ∷ rest) workers → is_new_user (naming done []) name ≡ true
 unfolding naming
-new_user done name rest workers valid ceilings =
+new_user done name rest workers valid =
     let users = done ++ name ∷ rest in
     let within : length done < length users = grind (arith, common_steps) in
     let fresh : list_any (λ other. bytes_eq other name) done ≡ false =
@@ -126,103 +153,230 @@ new_user done name rest workers valid ceilings =
     and_true (true && not (list_any (λ other. bytes_eq other name) done)) (ltb (length done) USERS) (ap not fresh) room
 
 user_taken : (config : Configuration) (done : List (List ℕ)) (name : List ℕ) (rest : List (List ℕ)) (workers : ℕ) → IsConfiguration config.users config.workers
-    → IsConfiguration (done ++ name ∷ rest) workers → after_line (naming done (unset done)) (user_text config name) ≡ Some (naming (done ++ name ∷ []) (unset (done ++ name ∷ [])))
+    → IsConfiguration (done ++ name ∷ rest) workers → after_line (naming done []) (user_text config name) ≡ Some (naming (done ++ name ∷ []) [])
 unfolding after_words naming user_text
 user_taken config done name rest workers configured valid =
     let users = done ++ name ∷ rest in
     let within : length done < length users = grind (arith, common_steps) in
     let good : is_user_name name ≡ true = subst (λ (n : List ℕ). is_user_name n ≡ true) (get_or-append_seam done name rest []) (valid.good_names (length done) [] within) in
-    let r = naming done (unset done) in
+    let r = naming done [] in
     line_in_words r (line_text config (user_said name)) refl
     ∙ ap (after_words r) (text_in_words config (user_said name) configured refl (good, tt))
     ∙ ap (λ (said : Option (List ℕ)). said >>= with_user r) (line_again user_line config (name, tt) configured (good, tt))
-    ∙ chosen (is_new_user r name) (Some (naming (done ++ name ∷ []) (unset done ++ None ∷ []))) None (new_user done name rest workers valid (unset done))
-    ∙ ap (λ ceilings. Some (naming (done ++ name ∷ []) ceilings)) (sym (map_push (λ _. None) done name))
+    ∙ chosen (is_new_user r name) (Some (naming (done ++ name ∷ []) [])) None (new_user done name rest workers valid)
 
 step_on : (r next : Reading) (line : List ℕ) (number : ℕ) (lines : List (List ℕ)) → after_line r line ≡ Some next
     → script_from r number (line ∷ lines) ≡ script_from next (number + 1) lines
 step_on r next line number lines is = ap (λ (read : Option Reading). elim read [ None ↦ Bad number | Some next ↦ script_from next (number + 1) lines ]) is
 
 users_taken : (config : Configuration) (done rest : List (List ℕ)) (workers number : ℕ) (lines : List (List ℕ)) (good : Script) → IsConfiguration config.users config.workers
-    → IsConfiguration (done ++ rest) workers → ((number : ℕ) → script_from (naming (done ++ rest) (unset (done ++ rest))) number lines ≡ good)
-    → script_from (naming done (unset done)) number (map (user_text config) rest ++ lines) ≡ good
+    → IsConfiguration (done ++ rest) workers → ((number : ℕ) → script_from (naming (done ++ rest) []) number lines ≡ good)
+    → script_from (naming done []) number (map (user_text config) rest ++ lines) ≡ good
 users_taken config done [] workers number lines good configured valid more =
-    subst (λ (users : List (List ℕ)). script_from (naming users (unset users)) number lines ≡ good) (append-nil done) (more number)
+    subst (λ (users : List (List ℕ)). script_from (naming users []) number lines ≡ good) (append-nil done) (more number)
 users_taken config done (name ∷ rest) workers number lines good configured valid more =
     let same : (done ++ name ∷ []) ++ rest ≡ done ++ name ∷ rest = append_assoc done (name ∷ []) rest in
-    step_on (naming done (unset done)) (naming (done ++ name ∷ []) (unset (done ++ name ∷ []))) (user_text config name) number (map (user_text config) rest ++ lines) (user_taken config done name rest workers configured valid)
+    step_on (naming done []) (naming (done ++ name ∷ []) []) (user_text config name) number (map (user_text config) rest ++ lines) (user_taken config done name rest workers configured valid)
     ∙ users_taken config (done ++ name ∷ []) rest workers (number + 1) lines good configured
     (subst (λ (users : List (List ℕ)). IsConfiguration users workers) (sym same) valid)
-    (subst (λ (users : List (List ℕ)). (number : ℕ) → script_from (naming users (unset users)) number lines ≡ good) (sym same) more)
+    (subst (λ (users : List (List ℕ)). (number : ℕ) → script_from (naming users []) number lines ≡ good) (sym same) more)
 
--- ceilings
+-- settings
 
-all_unset : {A B : Type 0} (one : List A) (other : List B) → length one ≡ length other → unset one ≡ unset other
-all_unset [] [] same = refl
-all_unset [] (y ∷ other) same = absurd (omega (arith, same))
-all_unset (x ∷ one) [] same = absurd (omega (arith, same))
-all_unset (x ∷ one) (y ∷ other) same = ap (λ (rest : List (Option ℕ)). None ∷ rest) (all_unset one other (omega (arith, same)))
+-- none of the rest sets what one before it sets
+abbrev AreFresh : List Setting → List Setting → Type 0
+AreFresh done [] = Unit {0}
+AreFresh done (setting ∷ rest) = (list_any (sets_same setting) done ≡ false) × AreFresh (done ++ setting ∷ []) rest
 
--- where some are set, the next one is not, and is set
-next_unset : (done : List ℕ) (rest : List (Option ℕ)) → get_or (map Some done ++ None ∷ rest) (length done) None ≡ None
-next_unset [] rest = refl
-next_unset (x ∷ done) rest = next_unset done rest
+fresh_append : (done first rest : List Setting) → AreFresh done first → AreFresh (done ++ first) rest → AreFresh done (first ++ rest)
+fresh_append done [] rest own others = subst (λ (all : List Setting). AreFresh all rest) (append-nil done) others
+fresh_append done (setting ∷ first) rest own others =
+    (own.0, fresh_append (done ++ setting ∷ []) first rest own.1 (subst (λ (all : List Setting). AreFresh all rest) (sym (append_assoc done (setting ∷ []) first)) others))
 
-next_set : (done : List ℕ) (prio : ℕ) (rest : List (Option ℕ)) → slice_set (map Some done ++ None ∷ rest) (length done) (Some prio) ≡ map Some (done ++ prio ∷ []) ++ rest
-next_set [] prio rest = refl
-next_set (x ∷ done) prio rest = ap (λ (all : List (Option ℕ)). Some x ∷ all) (next_set done prio rest)
+any_append : (test : Setting → Bool) (first rest : List Setting) → list_any test first ≡ false → list_any test rest ≡ false → list_any test (first ++ rest) ≡ false
+any_append test [] rest none others = others
+any_append test (setting ∷ first) rest none others = by (test setting) (list_any test first) none (λ is. any_append test first rest is others)
+  where
+    by : (b c : Bool) → (b || c) ≡ false → (c ≡ false → list_any test (first ++ rest) ≡ false) → (b || list_any test (first ++ rest)) ≡ false
+    by true c is more = is
+    by false c is more = more is
 
-all_set : (ceilings : List ℕ) → map ceiling_set (map Some ceilings) ≡ ceilings
-all_set [] = refl
-all_set (prio ∷ ceilings) = ap (λ rest. prio ∷ rest) (all_set ceilings)
+-- what is fresh among others is so behind those that set the same of other users
+fresh_behind : (done own rest : List Setting) → All (λ setting. list_any (sets_same setting) done ≡ false) rest → AreFresh own rest → AreFresh (done ++ own) rest
+fresh_behind done own [] apart fresh = tt
+fresh_behind done own (setting ∷ rest) apart fresh =
+    let P : Setting → Type 0 = λ setting. list_any (sets_same setting) done ≡ false in (
+      any_append (sets_same setting) done own (All-head P setting rest apart) fresh.0,
+      subst (λ (all : List Setting). AreFresh all rest) (sym (append_assoc done own (setting ∷ []))) (fresh_behind done (own ++ setting ∷ []) rest (All-tail P setting rest apart) fresh.1),
+    )
 
--- a user's ceiling is set, where those before are
-ceiling_taken : (config : Configuration) (done : List ℕ) (prio : ℕ) (rest : List (Option ℕ)) → IsConfiguration config.users config.workers → length done < length config.users → IsCeiling prio
-    → after_line (naming config.users (map Some done ++ None ∷ rest)) (line_text config (ceiling_said (suc (length done)) prio)) ≡ Some (naming config.users (map Some (done ++ prio ∷ []) ++ rest))
-unfolding after_words naming
-ceiling_taken config done prio rest valid within good =
-    let r = naming config.users (map Some done ++ None ∷ rest) in
-    let user : User = record { 0 = suc (length done) } in
-    let said = ceiling_said (suc (length done)) prio in
-    let can : CanBeSaid config.users said = ((omega arith, omega (arith, within)), (good.1, tt)) in
-    let low : leb 1 prio ≡ true = let some = good.0 in grind (arith, nat_tests) in
-    let at : place_of user ≡ length done = omega arith in
-    let unnamed : get_or r.ceilings (place_of user) None ≡ None = ap (λ place. get_or r.ceilings place None) at ∙ next_unset done rest in
+own_fresh : (user : ℕ) (limits : UserLimits) → AreFresh [] (settings_of user limits)
+own_fresh user limits = (refl, (refl, (refl, (refl, (refl, (refl, (refl, (refl, (refl, (refl, tt))))))))))
+
+-- those of users before that one set nothing of it
+abbrev AreBefore : ℕ → List Setting → Type 0
+AreBefore user = All (λ setting. setting.user.0 < user)
+
+none_before : (user : ℕ) (done : List Setting) (setting : Setting) → AreBefore user done → setting.user.0 ≡ user → list_any (sets_same setting) done ≡ false
+none_before user [] setting before of = refl
+none_before user (other ∷ done) setting before of =
+    let earlier = All-head (λ (s : Setting). s.user.0 < user) other done before in
+    let apart : eqb setting.user.0 other.user.0 ≡ false = grind (arith, nat_tests) in
+    or_false (eqb (limit_number setting.limit) (limit_number other.limit) && eqb setting.user.0 other.user.0) (list_any (sets_same setting) done)
+    (and_false (eqb (limit_number setting.limit) (limit_number other.limit)) (eqb setting.user.0 other.user.0) apart)
+    (none_before user done setting (All-tail (λ (s : Setting). s.user.0 < user) other done before) of)
+  where
+    and_false : (a b : Bool) → b ≡ false → (a && b) ≡ false
+    and_false true b is = is
+    and_false false b is = refl
+
+each_own : (P : Setting → Type 0) (user : ℕ) (limits : UserLimits) → ((limit : Option LimitName) (value : ℕ) → P (setting_of user limit value)) → All P (settings_of user limits)
+each_own P user limits each =
+    All-from_recursion P (settings_of user limits) (each None limits.ceiling, (each (Some Processes) limits.processes, (each (Some Connections) limits.connections, (each (Some Servers) limits.servers, (each (Some Blocks) limits.blocks, (each (Some Inodes) limits.inodes, (each (Some File) limits.file, (each (Some Bytes) limits.bytes, (each (Some Mounts) limits.mounts, (each (Some Events) limits.events, tt))))))))))
+
+all_fresh : (user : ℕ) (all : List UserLimits) (done : List Setting) → AreBefore user done → AreFresh done (settings_from user all)
+all_fresh user [] done before = tt
+all_fresh user (limits ∷ others) done before =
+    let P : Setting → Type 0 = λ setting. setting.user.0 < suc user in
+    let own = fresh_behind done [] (settings_of user limits) (each_own (λ setting. list_any (sets_same setting) done ≡ false) user limits (λ limit value. none_before user done (setting_of user limit value) before refl)) (own_fresh user limits) in
+    fresh_append done (settings_of user limits) (settings_from (suc user) others) (subst (λ (all : List Setting). AreFresh all (settings_of user limits)) (append-nil done) own)
+    (all_fresh (suc user) others (done ++ settings_of user limits)
+    (All-append P done (settings_of user limits) (λ k d below. let less = before k d below in omega (arith, less)) (each_own P user limits (λ limit value. omega arith))))
+
+-- each of them can be set
+all_can : (config : Configuration) (user : ℕ) (all : List UserLimits) → 1 ≤ user → user + length all ≤ length config.users + 1 → All AreLimits all → All (CanBeSet (length config.users)) (settings_from user all)
+all_can config user [] some few each = All-nil (CanBeSet (length config.users))
+all_can config user (limits ∷ others) some few each =
+    let P = CanBeSet (length config.users) in
+    let own = All-head AreLimits limits others each in
+    let can : (limit : Option LimitName) (value : ℕ) → (1 ≤ value) × (value ≤ greatest limit) → P (setting_of user limit value) = λ limit value range.
+    record { some = some; within = omega (arith, few); allowed = and_true (leb 1 value) (leb value (greatest limit)) (let low = range.0 in grind (arith, nat_tests)) (let high = range.1 in grind (arith, nat_tests)) } in
+    All-append P (settings_of user limits) (settings_from (suc user) others)
+    (All-from_recursion P (settings_of user limits) (can None limits.ceiling own.ceiling, (can (Some Processes) limits.processes own.processes, (can (Some Connections) limits.connections own.connections, (can (Some Servers) limits.servers own.servers, (can (Some Blocks) limits.blocks own.blocks, (can (Some Inodes) limits.inodes own.inodes, (can (Some File) limits.file own.file, (can (Some Bytes) limits.bytes own.bytes, (can (Some Mounts) limits.mounts own.mounts, (can (Some Events) limits.events own.events, tt)))))))))))
+    (all_can config (suc user) others (omega arith) (omega (arith, few)) (All-tail AreLimits limits others each))
+
+-- a line of theirs is taken
+setting_taken : (config : Configuration) (done : List Setting) (user : User) (limit : Option LimitName) (value : ℕ) → let setting : Setting = record { user = user; limit = limit; value = value } in IsConfiguration config.users config.workers
+    → CanBeSet (length config.users) setting → list_any (sets_same setting) done ≡ false → after_line (naming config.users done) (setting_text config setting) ≡ Some (naming config.users (done ++ setting ∷ []))
+unfolding after_words naming setting_text
+setting_taken config done user None value valid can fresh =
+    let setting : Setting = record { user = user; limit = None; value = value } in
+    let r = naming config.users done in
+    let said = setting_said setting in
+    let says = can_say config setting can in
     line_in_words r (line_text config said) refl
-    ∙ ap (after_words r) (text_in_words config said valid refl can)
-    ∙ ap (λ (said : Option (User × ℕ)). said >>= with_ceiling r) (line_again ceiling_line config (user, (prio, tt)) valid can)
-    ∙ chosen (is_none (get_or r.ceilings (place_of user) None) && leb 1 prio) (Some (record r { ceilings = slice_set r.ceilings (place_of user) (Some prio) })) None (and_true (is_none (get_or r.ceilings (place_of user) None)) (leb 1 prio) (ap is_none unnamed) low)
-    ∙ ap (λ place. Some (naming config.users (slice_set r.ceilings place (Some prio)))) at
-    ∙ ap (λ ceilings. Some (naming config.users ceilings)) (next_set done prio rest)
+    ∙ ap (after_words r) (text_in_words config said valid refl says)
+    ∙ ap (λ (said : Option Setting). said >>= with_setting r) (line_again ceiling_line config (user, (value, tt)) valid says)
+    ∙ chosen (not (list_any (sets_same setting) done) && is_allowed setting) (Some (naming config.users (done ++ setting ∷ []))) None (and_true (not (list_any (sets_same setting) done)) (is_allowed setting) (ap not fresh) can.allowed)
+setting_taken config done user (Some limit) value valid can fresh =
+    let setting : Setting = record { user = user; limit = Some limit; value = value } in
+    let r = naming config.users done in
+    let said = setting_said setting in
+    let says = can_say config setting can in
+    line_in_words r (line_text config said) refl
+    ∙ ap (after_words r) (text_in_words config said valid refl says)
+    ∙ ap (λ (said : Option Setting). said >>= with_setting r) (line_again limit_line config (user, (limit, (value, tt))) valid says)
+    ∙ chosen (not (list_any (sets_same setting) done) && is_allowed setting) (Some (naming config.users (done ++ setting ∷ []))) None (and_true (not (list_any (sets_same setting) done)) (is_allowed setting) (ap not fresh) can.allowed)
 
-ceilings_taken : (config : Configuration) (done rest : List ℕ) (user number : ℕ) (lines : List (List ℕ)) (good : Script) → IsConfiguration config.users config.workers → user ≡ suc (length done)
-    → length done + length rest ≤ length config.users → All IsCeiling rest
-    → ((number : ℕ) → script_from (naming config.users (map Some (done ++ rest))) number lines ≡ good)
-    → script_from (naming config.users (map Some done ++ unset rest)) number (ceiling_lines config user rest ++ lines) ≡ good
-ceilings_taken config done [] user number lines good valid at few each more =
-    ap (λ ceilings. script_from (naming config.users ceilings) number lines) (append-nil (map Some done))
-    ∙ ap (λ ceilings. script_from (naming config.users (map Some ceilings)) number lines) (sym (append-nil done))
-    ∙ more number
-ceilings_taken config done (prio ∷ rest) user number lines good valid at few each more =
-    let r = naming config.users (map Some done ++ unset (prio ∷ rest)) in
-    let next = naming config.users (map Some (done ++ prio ∷ []) ++ unset rest) in
-    step_on r next (line_text config (ceiling_said user prio)) number (ceiling_lines config (suc user) rest ++ lines)
-    (subst (λ user. after_line r (line_text config (ceiling_said user prio)) ≡ Some next) (sym at) (ceiling_taken config done prio (unset rest) valid (omega (arith, few)) (All-head IsCeiling prio rest each)))
-    ∙ ceilings_taken config (done ++ prio ∷ []) rest (suc user) (number + 1) lines good valid (omega (arith, at, length_push done prio)) (omega (arith, few, length_push done prio)) (All-tail IsCeiling prio rest each)
-    (subst (λ (ceilings : List ℕ). (number : ℕ) → script_from (naming config.users (map Some ceilings)) number lines ≡ good) (sym (append_assoc done (prio ∷ []) rest)) more)
+settings_taken : (config : Configuration) (done rest : List Setting) (number : ℕ) (lines : List (List ℕ)) (good : Script) → IsConfiguration config.users config.workers
+    → All (CanBeSet (length config.users)) rest → AreFresh done rest → ((number : ℕ) → script_from (naming config.users (done ++ rest)) number lines ≡ good)
+    → script_from (naming config.users done) number (map (setting_text config) rest ++ lines) ≡ good
+settings_taken config done [] number lines good valid each fresh more =
+    subst (λ (all : List Setting). script_from (naming config.users all) number lines ≡ good) (append-nil done) (more number)
+settings_taken config done (setting ∷ rest) number lines good valid each fresh more =
+    let P = CanBeSet (length config.users) in
+    step_on (naming config.users done) (naming config.users (done ++ setting ∷ [])) (setting_text config setting) number (map (setting_text config) rest ++ lines)
+    (setting_taken config done setting.user setting.limit setting.value valid (All-head P setting rest each) fresh.0)
+    ∙ settings_taken config (done ++ setting ∷ []) rest (number + 1) lines good valid (All-tail P setting rest each) fresh.1
+    (subst (λ (all : List Setting). (number : ℕ) → script_from (naming config.users all) number lines ≡ good) (sym (append_assoc done (setting ∷ []) rest)) more)
+
+-- what they set: a user's limits at the user's place, and then those of all
+
+at_place : {A : Type 0} (front : List A) (x y : A) (rest : List A) → slice_set (front ++ x ∷ rest) (length front) y ≡ front ++ y ∷ rest
+at_place [] x y rest = refl
+at_place (z ∷ front) x y rest = ap (λ more. z ∷ more) (at_place front x y rest)
+
+found_at : (front : List UserLimits) (x : UserLimits) (rest : List UserLimits) → get_or (front ++ x ∷ rest) (length front) default_limits ≡ x
+found_at [] x rest = refl
+found_at (z ∷ front) x rest = found_at front x rest
+
+abbrev holding : Configuration → List UserLimits → Configuration
+holding config all = record config { limits = all }
+
+set_here : (config : Configuration) (front : List UserLimits) (x : UserLimits) (rest : List UserLimits) (limit : Option LimitName) (value : ℕ) → AreLimits x
+    → set_by (setting_of (suc (length front)) limit value) (holding config (front ++ x ∷ rest)) ≡ holding config (front ++ set_to limit value x ∷ rest)
+unfolding limits_of
+set_here config front x rest limit value within =
+    let all = front ++ x ∷ rest in
+    let place : suc (length front) - 1 ≡ length front = omega arith in
+    let same : in_ranges (get_or all (length front) default_limits) ≡ x = ap in_ranges (found_at front x rest) ∙ sym (in_ranges_same x within) in
+    ap (λ k. holding config (slice_set all k (set_to limit value (in_ranges (get_or all (length front) default_limits))))) place
+    ∙ (ap (λ limits. holding config (slice_set all (length front) (set_to limit value limits))) same
+    ∙ ap (holding config) (at_place front x (set_to limit value x) rest))
+
+-- one after the other, of one user
+pub record Valued : Type 0 where
+  pub limit : Option LimitName
+  pub value : ℕ
+
+abbrev own_of : ℕ → List Valued → List Setting
+own_of user values = map (λ (v : Valued). setting_of user v.limit v.value) values
+
+abbrev set_in_turn : List Valued → UserLimits → UserLimits
+set_in_turn [] limits = limits
+set_in_turn (v ∷ values) limits = set_in_turn values (set_to v.limit v.value limits)
+
+abbrev IsRanged : Valued → Type 0
+IsRanged v = (1 ≤ v.value) × (v.value ≤ greatest v.limit)
+
+own_set : (config : Configuration) (front : List UserLimits) (x : UserLimits) (rest : List UserLimits) (values : List Valued) → AreLimits x → AllByRecursion IsRanged values
+    → configured (own_of (suc (length front)) values) (holding config (front ++ x ∷ rest)) ≡ holding config (front ++ set_in_turn values x ∷ rest)
+own_set config front x rest [] within each = refl
+own_set config front x rest (v ∷ values) within each =
+    ap (configured (own_of (suc (length front)) values)) (set_here config front x rest v.limit v.value within)
+    ∙ own_set config front (set_to v.limit v.value x) rest values (set_within v.limit v.value x within each.0.0 each.0.1) each.1
+
+abbrev values_of : UserLimits → List Valued
+values_of limits =
+    record { limit = None; value = limits.ceiling }
+    ∷ record { limit = Some Processes; value = limits.processes }
+    ∷ record { limit = Some Connections; value = limits.connections }
+    ∷ record { limit = Some Servers; value = limits.servers }
+    ∷ record { limit = Some Blocks; value = limits.blocks }
+    ∷ record { limit = Some Inodes; value = limits.inodes }
+    ∷ record { limit = Some File; value = limits.file }
+    ∷ record { limit = Some Bytes; value = limits.bytes }
+    ∷ record { limit = Some Mounts; value = limits.mounts }
+    ∷ record { limit = Some Events; value = limits.events }
+    ∷ []
+
+all_set : (config : Configuration) (front rest : List UserLimits) → All AreLimits rest
+    → configured (settings_from (suc (length front)) rest) (holding config (front ++ replicate (length rest) default_limits)) ≡ holding config (front ++ rest)
+all_set config front [] each = refl
+all_set config front (limits ∷ rest) each =
+    let own = All-head AreLimits limits rest each in
+    let user = suc (length front) in
+    let tail = replicate (length rest) default_limits in
+    let ranged : AllByRecursion IsRanged (values_of limits) = (own.ceiling, (own.processes, (own.connections, (own.servers, (own.blocks, (own.inodes, (own.file, (own.bytes, (own.mounts, (own.events, tt)))))))))) in
+    let longer : suc (length (front ++ limits ∷ [])) ≡ suc user = omega (arith, length_push front limits) in
+    configured_more (settings_of user limits) (settings_from (suc user) rest) (holding config (front ++ default_limits ∷ tail))
+    ∙ ap (configured (settings_from (suc user) rest)) (own_set config front default_limits tail (values_of limits) default_within ranged)
+    ∙ ap (λ all. configured (settings_from (suc user) rest) (holding config all)) (sym (append_assoc front (limits ∷ []) tail))
+    ∙ subst (λ number. configured (settings_from number rest) (holding config ((front ++ limits ∷ []) ++ tail)) ≡ holding config ((front ++ limits ∷ []) ++ rest)) longer (all_set config (front ++ limits ∷ []) rest (All-tail AreLimits limits rest each))
+    ∙ ap (holding config) (append_assoc front (limits ∷ []) rest)
 
 -- workers
 
 serving : Configuration → List Command → Reading
-serving config commands = record { users = config.users; ceilings = map Some config.ceilings; workers = Some config.workers; commands = commands }
+serving config commands = record { users = config.users; settings = settings_from 1 config.limits; workers = Some config.workers; commands = commands }
 
 workers_text : Configuration → List ℕ
 workers_text config = line_text config (workers_said config.workers)
 
-workers_taken : (config : Configuration) → IsConfiguration config.users config.workers → after_line (naming config.users (map Some config.ceilings)) (workers_text config) ≡ Some (serving config [])
+workers_taken : (config : Configuration) → IsConfiguration config.users config.workers → after_line (naming config.users (settings_from 1 config.limits)) (workers_text config) ≡ Some (serving config [])
 unfolding after_words naming serving workers_text
 workers_taken config valid =
-    let r = naming config.users (map Some config.ceilings) in
+    let r = naming config.users (settings_from 1 config.limits) in
     let workers = config.workers in
     let low : leb 1 workers ≡ true = let some = valid.some_worker in grind (arith, nat_tests) in
     let high : leb workers WORKERS ≡ true = let few = valid.few_workers in grind (arith, nat_tests) in
@@ -234,27 +388,31 @@ workers_taken config valid =
 
 -- steps
 
-steps_taken : (config : Configuration) (commands : List Command) (steps : List Step) (number : ℕ) → IsConfiguration config.users config.workers → All (CanSay config.users) steps
+steps_taken : (config : Configuration) (commands : List Command) (steps : List Step) (number : ℕ) → IsConfiguration config.users config.workers → HasLimits config → All (CanSay config.users) steps
     → script_from (serving config commands) number (map (step_text config) steps) ≡ Good config (commands ++ map Take steps)
 unfolding serving
-steps_taken config commands [] number valid can = ap (λ ceilings. Good (record config { ceilings = ceilings }) commands) (all_set config.ceilings) ∙ ap (Good config) (sym (append-nil commands))
-steps_taken config commands (step ∷ steps) number valid can =
+steps_taken config commands [] number valid limits can =
+    ap (λ count. Good (configured (settings_from 1 config.limits) (holding config (replicate count default_limits))) commands) (sym limits.each_user)
+    ∙ ap (λ now. Good now commands) (all_set config [] config.limits limits.in_range)
+    ∙ ap (Good config) (sym (append-nil commands))
+steps_taken config commands (step ∷ steps) number valid limits can =
     let r = serving config commands in
     step_on r (with_command r (Take step)) (step_text config step) number (map (step_text config) steps)
     (read_back config r step valid refl (All-head (CanSay config.users) step steps can))
-    ∙ steps_taken config (commands ++ Take step ∷ []) steps (number + 1) valid (All-tail (CanSay config.users) step steps can)
+    ∙ steps_taken config (commands ++ Take step ∷ []) steps (number + 1) valid limits (All-tail (CanSay config.users) step steps can)
     ∙ ap (Good config) (append_assoc commands (Take step ∷ []) (map Take steps))
 
-lines_of_replay : (config : Configuration) (steps : List Step) → IsConfiguration config.users config.workers → HasCeilings config → All (CanSay config.users) steps
+lines_of_replay : (config : Configuration) (steps : List Step) → IsConfiguration config.users config.workers → HasLimits config → All (CanSay config.users) steps
     → lines_of (replay_text config steps) ≡ replay_lines config steps
-unfolding replay_text user_text workers_text
-lines_of_replay config steps valid ceilings can =
+unfolding replay_text user_text workers_text setting_text
+lines_of_replay config steps valid limits can =
     let named = said_in_line config (workers_said config.workers) valid refl (omega (arith, valid.few_workers), tt) in
     let rest = and_true (list_all is_in_line (workers_text config)) _ named (steps_in_lines config steps valid can) in
     let after = workers_text config ∷ map (step_text config) steps in
-    let ceilings_too = ceilings_in_lines config 1 config.ceilings after valid (omega arith) (omega (arith, ceilings.each_user)) ceilings.in_range rest in
-    whole (replay_lines config steps) (users_in_lines config config.users (ceiling_lines config 1 config.ceilings ++ after) valid valid.good_names ceilings_too)
-    (not_empty (map (user_text config) config.users) _ (not_empty (ceiling_lines config 1 config.ceilings) after (omega arith)))
+    let settings = settings_from 1 config.limits in
+    let settings_too = settings_in_lines config settings after valid (all_can config 1 config.limits (omega arith) (omega (arith, limits.each_user)) limits.in_range) rest in
+    whole (replay_lines config steps) (users_in_lines config config.users (map (setting_text config) settings ++ after) valid valid.good_names settings_too)
+    (not_empty (map (user_text config) config.users) _ (not_empty (map (setting_text config) settings) after (omega arith)))
   where
     whole : (lines : List (List ℕ)) → list_all (list_all is_in_line) lines ≡ true → 0 < length lines → lines_of (join_with_byte 10 lines) ≡ lines
     whole [] all some = absurd (omega arith)
@@ -264,18 +422,18 @@ lines_of_replay config steps valid ceilings can =
     not_empty [] more some = some
     not_empty (line ∷ first) more some = omega arith
 
-pub replays : (config : Configuration) (steps : List Step) → IsConfiguration config.users config.workers → HasCeilings config → All (CanSay config.users) steps
+pub replays : (config : Configuration) (steps : List Step) → IsConfiguration config.users config.workers → HasLimits config → All (CanSay config.users) steps
     → script (replay_text config steps) ≡ Good config (map Take steps)
-unfolding script naming user_text workers_text
-replays config steps valid ceilings can =
+unfolding script naming user_text workers_text setting_text
+replays config steps valid limits can =
     let after = workers_text config ∷ map (step_text config) steps in
     let good = Good config (map Take steps) in
-    ap (script_from unread 1) (lines_of_replay config steps valid ceilings can)
-    ∙ users_taken config [] config.users config.workers 1 (ceiling_lines config 1 config.ceilings ++ after) good valid valid
+    let settings = settings_from 1 config.limits in
+    ap (script_from unread 1) (lines_of_replay config steps valid limits can)
+    ∙ users_taken config [] config.users config.workers 1 (map (setting_text config) settings ++ after) good valid valid
     (λ number.
-    ap (λ unnamed. script_from (naming config.users unnamed) number (ceiling_lines config 1 config.ceilings ++ after)) (all_unset config.users config.ceilings (sym ceilings.each_user))
-    ∙ ceilings_taken config [] config.ceilings 1 number after good valid refl (omega (arith, ceilings.each_user)) ceilings.in_range
+    settings_taken config [] settings number after good valid (all_can config 1 config.limits (omega arith) (omega (arith, limits.each_user)) limits.in_range) (all_fresh 1 config.limits [] (All-nil (λ (setting : Setting). setting.user.0 < 1)))
     (λ number.
-    step_on (naming config.users (map Some config.ceilings)) (serving config []) (workers_text config) number (map (step_text config) steps)
+    step_on (naming config.users settings) (serving config []) (workers_text config) number (map (step_text config) steps)
     (workers_taken config valid)
-    ∙ steps_taken config [] steps (number + 1) valid can))
+    ∙ steps_taken config [] steps (number + 1) valid limits can))

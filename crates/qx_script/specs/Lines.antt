@@ -3,15 +3,15 @@ use Rattle.std.specs.Prelude.{ℕ, List, [], ◌∷◌, Option, Some, None, if�
 use Rattle.std.specs.Str.{bytes_eq}
 use Rattle.qx_types.specs.Optional.{◌>>=◌}
 use Rattle.qx_types.specs.declared.names.Thread.{Thread}
-use Rattle.qx_types.specs.declared.names.User.{User}
 use Rattle.qx_types.specs.declared.request.Request.{Request}
 use Rattle.qx_types.specs.declared.step.Step.{Step}
 use Rattle.qx_types.specs.declared.step.Step.TheVariants.{Spawn, Exit, Call, TakeReply, TakePulse, SetPrio, Interrupt, Mount, Receive, Perform}
+use Rattle.qx_script.specs.declared.setting.Setting.{Setting}
 use Rattle.qx_script.specs.declared.command.Command.{Command}
 use Rattle.qx_script.specs.declared.command.Command.TheVariants.{Take, Serve, Do, Show, Erased, Trace}
 use Rattle.qx_calls.specs.Calls.{call_in_line, call_said}
 use Rattle.qx_calls.specs.Forms.{◌then◌, end, Line, Saying, CanBeSaid, by, read_one_of}
-use Rattle.qx_words.specs.Kinds.{AName, AUser, AProcess, AThread, AByte, AMoment, APath, AManager}
+use Rattle.qx_words.specs.Kinds.{AName, AUser, AProcess, AThread, AByte, AFourByteNumber, AMoment, APath, AManager, ALimit}
 use Rattle.qx_words.specs.Words.{moment_of}
 
 -- who uses the system, what each user may ask for, and how many workers serve it
@@ -19,8 +19,11 @@ use Rattle.qx_words.specs.Words.{moment_of}
 abbrev pub user_line : Line (List ℕ)
 user_line = record { name = codes "user"; form = AName then end; made = λ name. name }
 
-abbrev pub ceiling_line : Line (User × ℕ)
-ceiling_line = record { name = codes "ceiling"; form = AUser then AByte then end; made = λ user prio. (user, prio) }
+abbrev pub ceiling_line : Line Setting
+ceiling_line = record { name = codes "ceiling"; form = AUser then AByte then end; made = λ user prio. record { user = user; limit = None; value = prio } }
+
+abbrev pub limit_line : Line Setting
+limit_line = record { name = codes "limit"; form = AUser then ALimit then AFourByteNumber then end; made = λ user limit n. record { user = user; limit = Some limit; value = n } }
 
 abbrev pub workers_line : Line ℕ
 workers_line = record { name = codes "workers"; form = AByte then end; made = λ workers. workers }

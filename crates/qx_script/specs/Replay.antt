@@ -1,31 +1,59 @@
 -- The script that takes steps anew.
-use Rattle.std.specs.Prelude.{ℕ, suc, List, [], ◌∷◌, ◌++◌, map}
+use Rattle.std.specs.Prelude.{ℕ, suc, List, [], ◌∷◌, ◌++◌, Option, Some, None, map}
 use Rattle.std.specs.List.{join_with_byte}
 use Rattle.qx_types.specs.Configuration.{Configuration}
 use Rattle.qx_types.specs.declared.step.Step.{Step}
 use Rattle.qx_calls.specs.Forms.{Saying, by, line_text}
-use Rattle.qx_script.specs.Lines.{ceiling_line, user_line, workers_line}
+use Rattle.qx_types.specs.UserLimits.{UserLimits}
+use Rattle.qx_types.specs.declared.names.User.{User}
+use Rattle.qx_types.specs.declared.user_limits.LimitName.{LimitName}
+use Rattle.qx_types.specs.declared.user_limits.LimitName.TheVariants.{Processes, Connections, Servers, Blocks, Inodes, File, Bytes, Mounts, Events}
+use Rattle.qx_script.specs.declared.setting.Setting.{Setting}
+use Rattle.qx_script.specs.Lines.{ceiling_line, limit_line, user_line, workers_line}
 use Rattle.qx_script.specs.StepText.{step_text}
 
 abbrev pub user_said : List ℕ → Saying
 user_said name = by user_line (name, tt)
 
-abbrev pub ceiling_said : ℕ → ℕ → Saying
-ceiling_said user prio = by ceiling_line (record { 0 = user }, (prio, tt))
+-- the line that sets it
+abbrev pub said_by : User → Option LimitName → ℕ → Saying
+said_by user None value = by ceiling_line (user, (value, tt))
+said_by user (Some limit) value = by limit_line (user, (limit, (value, tt)))
+
+abbrev pub setting_said : Setting → Saying
+setting_said setting = said_by setting.user setting.limit setting.value
 
 abbrev pub workers_said : ℕ → Saying
 workers_said workers = by workers_line (workers, tt)
 
--- a line for the ceiling of each user from a number on
-abbrev pub ceiling_lines : Configuration → ℕ → List ℕ → List (List ℕ)
-ceiling_lines config user [] = []
-ceiling_lines config user (prio ∷ ceilings) = line_text config (ceiling_said user prio) ∷ ceiling_lines config (suc user) ceilings
+abbrev pub setting_of : ℕ → Option LimitName → ℕ → Setting
+setting_of user limit value = record { user = record { 0 = user }; limit = limit; value = value }
 
--- a line for each user, one for each ceiling, one for the number of workers, and one for each step as `trace` prints it
+-- a user's ceiling and each limit
+abbrev pub settings_of : ℕ → UserLimits → List Setting
+settings_of user limits =
+    setting_of user None limits.ceiling
+    ∷ setting_of user (Some Processes) limits.processes
+    ∷ setting_of user (Some Connections) limits.connections
+    ∷ setting_of user (Some Servers) limits.servers
+    ∷ setting_of user (Some Blocks) limits.blocks
+    ∷ setting_of user (Some Inodes) limits.inodes
+    ∷ setting_of user (Some File) limits.file
+    ∷ setting_of user (Some Bytes) limits.bytes
+    ∷ setting_of user (Some Mounts) limits.mounts
+    ∷ setting_of user (Some Events) limits.events
+    ∷ []
+
+-- those of each user from a number on
+abbrev pub settings_from : ℕ → List UserLimits → List Setting
+settings_from user [] = []
+settings_from user (limits ∷ others) = settings_of user limits ++ settings_from (suc user) others
+
+-- a line for each user, one for each ceiling and each limit of each user, one for the number of workers, and one for each step as `trace` prints it
 abbrev pub replay_lines : Configuration → List Step → List (List ℕ)
 replay_lines config steps =
     map (λ name. line_text config (user_said name)) config.users ++
-    (ceiling_lines config 1 config.ceilings ++ line_text config (workers_said config.workers) ∷ map (step_text config) steps)
+    (map (λ setting. line_text config (setting_said setting)) (settings_from 1 config.limits) ++ line_text config (workers_said config.workers) ∷ map (step_text config) steps)
 
 -- the script of these lines
 unfoldable pub replay_text : Configuration → List Step → List ℕ

@@ -1,30 +1,32 @@
 -- A script: who uses the system, what each user may ask for, how many workers serve it, and what the lines ask for in order.
-use Rattle.std.specs.Prelude.{ℕ, ◌+◌, ◌-◌, ◌==◌, ◌&&◌, Bool, true, not, List, [], ◌∷◌, ◌++◌, Option, Some, None, get_or, length, map, if◌then◌else◌, nat_le, nat_lt, is_none, option_map, slice_set, unwrap_or}
+use Rattle.std.specs.Prelude.{ℕ, ◌+◌, ◌==◌, ◌&&◌, Bool, true, not, List, [], ◌∷◌, ◌++◌, Option, Some, None, length, if◌then◌else◌, nat_le, nat_lt, is_none, option_map, replicate, unwrap_or}
 use Rattle.std.specs.List.{list_any}
 use Rattle.std.specs.Str.{bytes_eq}
 use Rattle.qx_types.specs.Configuration.{Configuration}
 use Rattle.qx_types.specs.Optional.{◌>>=◌}
-use Rattle.qx_types.specs.declared.names.User.{User}
-use Rattle.qx_types.specs.declared.limits.TheConstants.Limits.{CEILING, USERS, WORKERS}
+use Rattle.qx_types.specs.UserLimits.{default_limits}
+use Rattle.qx_types.specs.declared.limits.TheConstants.Limits.{USERS, WORKERS}
 use Rattle.qx_script.specs.declared.command.Command.{Command}
 use Rattle.qx_script.specs.declared.script.Script as code
 use Rattle.qx_script.specs.declared.script.Script.TheVariants as variant
-use Rattle.qx_calls.specs.Forms.{read_form}
-use Rattle.qx_script.specs.Lines.{ceiling_line, command_of, user_line, workers_line}
+use Rattle.qx_script.specs.declared.setting.Setting.{Setting}
+use Rattle.qx_calls.specs.Forms.{Line, read_form}
+use Rattle.qx_script.specs.Lines.{ceiling_line, command_of, limit_line, user_line, workers_line}
+use Rattle.qx_script.specs.Settings.{configured, is_allowed, sets_same}
 use Rattle.qx_words.specs.Words.{lines_of, words_of}
 
--- what the lines so far say; a user may have no ceiling yet
+-- what the lines so far say
 pub record Reading : Type 0 where
   pub users : List (List ℕ)
-  pub ceilings : List (Option ℕ)
+  pub settings : List Setting
   pub workers : Option ℕ
   pub commands : List Command
 
 -- nothing is read
 abbrev pub unread : Reading
-unread = record { users = []; ceilings = []; workers = None; commands = [] }
+unread = record { users = []; settings = []; workers = None; commands = [] }
 
--- users, ceilings and workers are named before the first command
+-- users, what is set for them and workers are named before the first command
 abbrev pub is_before_commands : Reading → Bool
 is_before_commands reading = length reading.commands == 0
 
@@ -36,19 +38,19 @@ is_new_user reading name =
 abbrev pub with_user : Reading → List ℕ → Option Reading
 with_user reading name =
     if is_new_user reading name
-    then Some (record reading { users = reading.users ++ name ∷ []; ceilings = reading.ceilings ++ None ∷ [] })
+    then Some (record reading { users = reading.users ++ name ∷ [] })
     else None
 
--- the user's place among the ceilings
-abbrev pub place_of : User → ℕ
-place_of user = user.0 - 1
-
--- a ceiling from 1, for a user who has none yet
-abbrev pub with_ceiling : Reading → User × ℕ → Option Reading
-with_ceiling reading (user, prio) =
-    if is_before_commands reading && is_none (get_or reading.ceilings (place_of user) None) && nat_le 1 prio
-    then Some (record reading { ceilings = slice_set reading.ceilings (place_of user) (Some prio) })
+-- what may be set, once
+abbrev pub with_setting : Reading → Setting → Option Reading
+with_setting reading setting =
+    if is_before_commands reading && not (list_any (sets_same setting) reading.settings) && is_allowed setting
+    then Some (record reading { settings = reading.settings ++ setting ∷ [] })
     else None
+
+-- where a line that sets something is read
+abbrev pub with_setting_read : Reading → Option Setting → Option Reading
+with_setting_read reading setting = setting >>= with_setting reading
 
 -- a number of workers that a configuration may have, named once
 abbrev pub with_workers : Reading → ℕ → Option Reading
@@ -63,8 +65,8 @@ with_command reading command = record reading { commands = reading.commands ++ c
 abbrev pub after_user : Reading → List (List ℕ) → Option Reading
 after_user reading words = read_form user_line reading.users words >>= with_user reading
 
-abbrev pub after_ceiling : Reading → List (List ℕ) → Option Reading
-after_ceiling reading words = read_form ceiling_line reading.users words >>= with_ceiling reading
+abbrev pub after_setting : Line Setting → Reading → List (List ℕ) → Option Reading
+after_setting line reading words = with_setting_read reading (read_form line reading.users words)
 
 abbrev pub after_workers : Reading → List (List ℕ) → Option Reading
 after_workers reading words = read_form workers_line reading.users words >>= with_workers reading
@@ -74,7 +76,8 @@ unfoldable pub after_words : Reading → List (List ℕ) → Option Reading
 after_words reading [] = None
 after_words reading (name ∷ words) =
     if bytes_eq name user_line.name then after_user reading words
-    else if bytes_eq name ceiling_line.name then after_ceiling reading words
+    else if bytes_eq name ceiling_line.name then after_setting ceiling_line reading words
+    else if bytes_eq name limit_line.name then after_setting limit_line reading words
     else if bytes_eq name workers_line.name then after_workers reading words
     else option_map (with_command reading) (command_of reading.users name words)
 
@@ -97,13 +100,10 @@ abbrev pub said : code.Script → Script
 said (variant.Bad line) = Bad line
 said (variant.Good config commands) = Good config commands.items
 
--- the ceiling that is set where no line names one
-abbrev pub ceiling_set : Option ℕ → ℕ
-ceiling_set named = unwrap_or named CEILING
-
 -- without a line that names the workers there is one
 abbrev pub script_of : Reading → Script
-script_of reading = Good (record { users = reading.users; workers = unwrap_or reading.workers 1; ceilings = map ceiling_set reading.ceilings }) reading.commands
+script_of reading =
+    Good (configured reading.settings (record { users = reading.users; workers = unwrap_or reading.workers 1; limits = replicate (length reading.users) default_limits })) reading.commands
 
 -- the lines from this number on
 abbrev pub script_from : Reading → ℕ → List (List ℕ) → Script

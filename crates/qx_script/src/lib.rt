@@ -2,6 +2,7 @@
 //!
 //! - `command.rt`: a `Command`, what a line asks for
 //! - `lines.rt`: what a line of each kind asks for; the lines are described in `Lines.antt`, as calls are in `qx_calls`
+//! - `setting.rt`: what a line sets for a user
 //! - `script.rt`, `reading.rt`: `parse`, a configuration with its commands, or the first bad line; a script line by
 //!   line
 //! - `text.rt`: each step as the line that takes it
@@ -16,6 +17,7 @@ pub mod laws;
 mod lines;
 mod reading;
 pub mod script;
+pub mod setting;
 pub mod text;
 
 pub use command::Command;

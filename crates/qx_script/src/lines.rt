@@ -1,14 +1,15 @@
 ghost use Rattle.std.specs.Prelude.{◌≡◌, ◌≤◌, ℕ, IfOk, IfSome, List, length, map, option_map, true};
 ghost use Rattle.qx_types.specs.Configuration.{is_user_name};
 ghost use Rattle.qx_calls.specs.Forms.{◌then◌, end, read_form, read_words};
-ghost use Rattle.qx_script.specs.Lines.{ceiling_line, command_of, do_of, erased_line, exit_line, interrupt_line, mount_line, perform_line, prio_line, line_of_receive, pulse_line, reply_line, serve_line, show_line, spawn_line, step_in_line, trace_line, user_line, workers_line};
+ghost use Rattle.qx_script.specs.Lines.{ceiling_line, command_of, do_of, erased_line, exit_line, interrupt_line, limit_line, mount_line, perform_line, prio_line, line_of_receive, pulse_line, reply_line, serve_line, show_line, spawn_line, step_in_line, trace_line, user_line, workers_line};
 ghost use Rattle.qx_words.specs.Kinds.{AProcess, AThread};
 
 use crate::command::Command;
+use crate::setting::Setting;
 use qx_calls::lines::call;
-use qx_types::{Bytes, NoMemory, Prio, Proc, Step, Thread, User, Worker};
+use qx_types::{Bytes, NoMemory, Prio, Proc, Step, Thread, Worker};
 use qx_words::Users;
-use qx_words::words::{byte, manager, moment, name, process, thread};
+use qx_words::words::{byte, four_byte_number, limit_name, manager, moment, name, process, thread};
 use std::alloc::Global;
 
 /// `user NAME`
@@ -23,16 +24,38 @@ pub fn user<'a>(words: &[&'a [u8]]) -> Option<&'a [u8]>
 }
 
 /// `ceiling USER PRIORITY`
-pub fn ceiling(users: &Users, words: &[&[u8]]) -> Option<(User, u8)>
-    ensures ceiling { result ≡ read_form ceiling_line users.now (map (λ word. word.now) words.now) }
-    ensures within { IfSome result (λ ceiling. (1 ≤ ceiling.0.0) × (ceiling.0.0 ≤ length users.now)) }
+pub fn ceiling(users: &Users, words: &[&[u8]]) -> Option<Setting>
+    ensures setting { result ≡ read_form ceiling_line users.now (map (λ word. word.now) words.now) }
+    ensures within { IfSome result (λ setting. (1 ≤ setting.user.0) × (setting.user.0 ≤ length users.now)) }
 {
     let [user, prio] = words else {
         return None;
     };
     let user = users.find(*user)?;
     let prio = byte(*prio)?;
-    Some((user, prio))
+    Some(Setting {
+        user,
+        limit: None,
+        value: u32::from(prio),
+    })
+}
+
+/// `limit USER NAME NUMBER`
+pub fn limit(users: &Users, words: &[&[u8]]) -> Option<Setting>
+    ensures setting { result ≡ read_form limit_line users.now (map (λ word. word.now) words.now) }
+    ensures within { IfSome result (λ setting. (1 ≤ setting.user.0) × (setting.user.0 ≤ length users.now)) }
+{
+    let [user, name, number] = words else {
+        return None;
+    };
+    let user = users.find(*user)?;
+    let name = limit_name(*name)?;
+    let value = four_byte_number(*number)?;
+    Some(Setting {
+        user,
+        limit: Some(name),
+        value,
+    })
 }
 
 /// `workers NUMBER`

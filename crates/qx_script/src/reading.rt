@@ -1,42 +1,39 @@
 ghost use Rattle.std.specs.Prelude.{None, Some, ◌≡◌, ◌==◌, ◌≤◌, All, IfOk, IfSome, IsOk, IsTrue, if◌then◌else◌, length, map};
-ghost use Rattle.qx_types.specs.declared.limits.TheConstants.Limits.{USERS};
-ghost use Rattle.qx_script.specs.Script.{after_ceiling, after_line, after_user, after_words, after_workers, ceiling_set, is_new_user, is_skipped, said, script_of, unread, with_command};
+ghost use Rattle.qx_script.specs.Script.{after_line, after_user, after_words, after_workers, is_new_user, is_skipped, said, script_of, unread, with_command, with_setting_read};
+ghost use Rattle.std.specs.List.{list_any};
+ghost use Rattle.qx_script.specs.Settings.{CanBeSet, configured, sets_same};
 
 use crate::command::Command;
-use crate::lines::{ceiling, command, user, workers};
+use crate::lines::{ceiling, command, limit, user, workers};
 use crate::script::Script;
-use arrayvec::ArrayVec;
-use qx_types::{Config, Limits, NoMemory, Prio, User};
+use crate::setting::Setting;
+use qx_types::{Config, Limits, NoMemory};
 use qx_words::Users;
 use qx_words::words::split_words;
 use std::alloc::Global;
 use std::marker::Model;
 
-/// How many users there may be.
-const PLACES: usize = Limits::USERS;
-
 /// What the lines of a script say so far.
 #[derive(Debug, Drop)]
 pub struct Reading {
     users: Users,
-    ceilings: ArrayVec<Option<u8>, PLACES>,
+    settings: Vec<Setting>,
     workers: Option<u8>,
     commands: Vec<Command>,
 }
 
 impl Model for Reading {
-    ghost use Rattle.std.specs.Prelude.{◌≡◌, ◌≤◌, All, IfSome, length};
+    ghost use Rattle.std.specs.Prelude.{◌≤◌, All, IfSome, length};
     ghost use Rattle.qx_script.specs.Script as script;
 
     ghost Value = { script.Reading };
 
-    ghost view = { λ r. record { users = r.users; ceilings = r.ceilings.items; workers = r.workers; commands = r.commands.items } };
+    ghost view = { λ r. record { users = r.users; settings = r.settings.items; workers = r.workers; commands = r.commands.items } };
 
     ghost use Rattle.qx_types.specs.declared.limits.TheConstants.Limits.{WORKERS};
+    ghost use Rattle.qx_script.specs.Settings.{CanBeSet};
 
-    ghost invariant = { λ r. IfSome r.workers (λ workers. (1 ≤ workers) × (workers ≤ WORKERS))
-        × (length r.ceilings.items ≡ length r.users)
-        × All (λ ceiling. IfSome ceiling (λ prio. 1 ≤ prio)) r.ceilings.items };
+    ghost invariant = { λ r. IfSome r.workers (λ workers. (1 ≤ workers) × (workers ≤ WORKERS)) × All (CanBeSet (length r.users)) r.settings.items };
 }
 
 impl Reading {
@@ -46,7 +43,7 @@ impl Reading {
     {
         Reading {
             users: Users::new(alloc),
-            ceilings: ArrayVec::new(),
+            settings: Vec::new(alloc),
             workers: None,
             commands: Vec::new(alloc),
         }
@@ -82,7 +79,11 @@ impl Reading {
         if *name == b"user".as_slice() {
             self.read_user(alloc, rest)
         } else if *name == b"ceiling".as_slice() {
-            Ok(self.read_ceiling(rest))
+            let setting = ceiling(&self.users, rest);
+            self.add_setting(setting)
+        } else if *name == b"limit".as_slice() {
+            let setting = limit(&self.users, rest);
+            self.add_setting(setting)
         } else if *name == b"workers".as_slice() {
             Ok(self.read_workers(rest))
         } else {
@@ -104,7 +105,6 @@ impl Reading {
             return Ok(false);
         }
         self.users.push(alloc, name)?;
-        self.ceilings.push(None);
         Ok(true)
     }
 
@@ -115,19 +115,26 @@ impl Reading {
         self.commands.is_empty() && !self.users.contains(name) && !self.users.is_full()
     }
 
-    /// `ceiling USER PRIORITY`
-    fn read_ceiling(&mut self, words: &[&[u8]]) -> bool
-        ensures read { (if result then Some self.new else None) ≡ after_ceiling self.old (map (λ word. word.now) words.now) }
+    /// Adds what a line sets for a user.
+    fn add_setting(&mut self, setting: Option<Setting>) -> Result<bool, NoMemory>
+        requires within { IfSome setting (λ setting. (1 ≤ setting.user.0) × (setting.user.0 ≤ length self.old.users)) }
+        ensures read { IfOk result (λ good. (if good then Some self.new else None) ≡ with_setting_read self.old setting) }
     {
-        let Some((user, prio)) = ceiling(&self.users, words) else {
-            return false;
+        let Some(setting) = setting else {
+            return Ok(false);
         };
-        let place = usize::from(user.0) - 1;
-        if !self.commands.is_empty() || self.ceilings[place].is_some() || prio < 1 {
-            return false;
+        if !self.commands.is_empty() || self.sets_same(&setting) || !setting.is_allowed() {
+            return Ok(false);
         }
-        self.ceilings[place] = Some(prio);
-        true
+        self.settings.push(setting)?;
+        Ok(true)
+    }
+
+    /// Whether an earlier line sets the same.
+    fn sets_same(&self, setting: &Setting) -> bool
+        ensures { result ≡ list_any (sets_same setting.now) self.now.settings }
+    {
+        self.settings.iter().any(|other| setting.sets_same(other))
     }
 
     /// `workers NUMBER`
@@ -162,29 +169,23 @@ impl Reading {
     {
         let Reading {
             users,
-            ceilings,
+            settings,
             workers,
             commands,
         } = self;
         let mut config = users.into_config(workers.unwrap_or(1));
-        set_ceilings(&mut config, ceilings.as_slice());
+        set_all(&mut config, settings.as_slice());
         Script::Good(config, commands)
     }
 }
 
-/// Sets each user's ceiling that a line names, and the default of every other.
-fn set_ceilings(config: &mut Config, ceilings: &[Option<u8>])
-    requires users { length ceilings.now ≡ length config.old.users }
-    requires each { length ceilings.now ≡ length config.old.ceilings }
-    requires few { length ceilings.now ≤ USERS }
-    requires some { All (λ ceiling. IfSome ceiling (λ prio. 1 ≤ prio)) ceilings.now }
-    ensures set { config.new ≡ record config.old { ceilings = map ceiling_set ceilings.now } }
+/// Sets what the lines set, one after the other.
+fn set_all(config: &mut Config, settings: &[Setting])
+    requires can { All (CanBeSet (length config.old.users)) settings.now }
+    ensures set { config.new ≡ configured settings.now config.old }
 {
-    'places: for place in 0..ceilings.len() {
-        let prio = Prio(ceilings[place].unwrap_or(Limits::CEILING));
-        let Ok(()) = config.set_ceiling(User(place as u8 + 1), prio) else {
-            unreachable!();
-        };
+    'settings: for setting in settings.iter() {
+        setting.set(config);
     }
 }
 

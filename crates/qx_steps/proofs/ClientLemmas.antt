@@ -4,7 +4,8 @@ use Rattle.std.specs.Prelude.{⊤, IfOk, IsErr, IsTrue, is_some}
 use Rattle.std.proofs.Math.Nat.{le-max_left, le_trans}
 use Rattle.std.proofs.lemmas.Bool.{cases_Bool}
 use Rattle.std.proofs.lemmas.Result.{IfOk-weaker}
-use Rattle.qx_types.specs.Configuration.{Configuration, ceiling_of}
+use Rattle.qx_types.specs.UserLimits.{UserLimits}
+use Rattle.qx_types.specs.Configuration.{Configuration, limits_of}
 use Rattle.qx_errno.specs.declared.Errno.TheVariants.{EINTR}
 use Rattle.qx_types.specs.declared.names.Prio.{Prio}
 use Rattle.qx_types.specs.declared.names.Thread.{Thread}
@@ -110,16 +111,16 @@ module _ (config : Configuration) (c : Channel) (ks : List (Option Kept)) (hands
 
   -- ---- spawn
 
-  under_ceiling : (user : User) (threads : ℕ) (prio : Prio) → let ceiling = ceiling_of config user.0 in step w (Spawn user threads prio)
-      ≡ record { world = world_of config (after_spawn ceiling c user.0 threads prio.0) ks hands; outcome = spawn_outcome (spawn_number_in ceiling threads prio.0 (row_at c.users user.0)) }
+  under_limits : (user : User) (threads : ℕ) (prio : Prio) → let limits = limits_of config user.0 in step w (Spawn user threads prio)
+      ≡ record { world = world_of config (after_spawn limits c user.0 threads prio.0) ks hands; outcome = spawn_outcome (spawn_number_in limits threads prio.0 (row_at c.users user.0)) }
   unfolding step client
-  under_ceiling user threads prio =
-      let ceiling = ceiling_of config user.0 in
+  under_limits user threads prio =
+      let limits = limits_of config user.0 in
       elim (option_cases (row_at c.users user.0)) [
-        | inl none ↦ rw (none_there user.0 none, with_row-none c.users user.0 (λ processes. spawned processes threads prio.0 (spawn_number ceiling processes threads prio.0)) none, none) refl
+        | inl none ↦ rw (none_there user.0 none, with_row-none c.users user.0 (λ processes. spawned processes threads prio.0 (spawn_number limits processes threads prio.0)) none, none) refl
         | inr ps ↦
             let o = the_owner user.0 ps.0 ps.1 in
-            elim (result_cases (spawn_number ceiling ps.0 threads prio.0)) [
+            elim (result_cases (spawn_number limits ps.0 threads prio.0)) [
               | inl number ↦
                   let after = spawned ps.0 threads prio.0 (Ok number.0) in
                   let left = left-put (held user.0 ps.0 o) (r user.0 ps.0 o).pipes ps.0 number.0 (new_process threads prio.0) o.left (starts threads prio.0) in
@@ -128,9 +129,9 @@ module _ (config : Configuration) (c : Channel) (ks : List (Option Kept)) (hands
             ]
       ]
 
-  pub spawn-step : (ceiling : ℕ) (user : User) (threads : ℕ) (prio : Prio) → ceiling ≡ ceiling_of config user.0 → step w (Spawn user threads prio)
-      ≡ record { world = world_of config (after_spawn ceiling c user.0 threads prio.0) ks hands; outcome = spawn_outcome (spawn_number_in ceiling threads prio.0 (row_at c.users user.0)) }
-  spawn-step ceiling user threads prio is = rw is (under_ceiling user threads prio)
+  pub spawn-step : (limits : UserLimits) (user : User) (threads : ℕ) (prio : Prio) → limits ≡ limits_of config user.0 → step w (Spawn user threads prio)
+      ≡ record { world = world_of config (after_spawn limits c user.0 threads prio.0) ks hands; outcome = spawn_outcome (spawn_number_in limits threads prio.0 (row_at c.users user.0)) }
+  spawn-step limits user threads prio is = rw is (under_limits user threads prio)
 
   -- ---- take_reply and set_prio
 
@@ -156,11 +157,11 @@ module _ (config : Configuration) (c : Channel) (ks : List (Option Kept)) (hands
       ≡ record { world = world_of config (after_taking c thread) ks hands; outcome = taken_outcome (answer_of (thread_row c.users thread)) }
   take_reply-step thread = by_channel (TakeReply thread) (after_taking c thread) (taken_outcome (answer_of (thread_row c.users thread))) (still-taking c ks sound.users thread).waits (reply_taken thread)
 
-  ranked_under : (thread : Thread) (prio : Prio) → let ceiling = ceiling_of config thread.proc.user.0 in step w (SetPrio thread prio)
+  ranked_under : (thread : Thread) (prio : Prio) → let ceiling = (limits_of config thread.proc.user.0).ceiling in step w (SetPrio thread prio)
       ≡ record { world = world_of config (after_ranking ceiling c thread prio.0) ks hands; outcome = prio_outcome_in ceiling thread.proc.num thread.tid prio.0 (row_at c.users thread.proc.user.0) }
   unfolding step client
   ranked_under thread prio =
-      let ceiling = ceiling_of config thread.proc.user.0 in
+      let ceiling = (limits_of config thread.proc.user.0).ceiling in
       elim (option_cases (row_at c.users thread.proc.user.0)) [
         | inl none ↦ rw (none_there thread.proc.user.0 none, with_row-none c.users thread.proc.user.0 (λ processes. after_or processes (with_prio ceiling processes thread.proc.num thread.tid prio.0)) none, none) refl
         | inr ps ↦
@@ -180,7 +181,7 @@ module _ (config : Configuration) (c : Channel) (ks : List (Option Kept)) (hands
             ]
       ]
 
-  pub set_prio-step : (ceiling : ℕ) (thread : Thread) (prio : Prio) → ceiling ≡ ceiling_of config thread.proc.user.0 → step w (SetPrio thread prio)
+  pub set_prio-step : (ceiling : ℕ) (thread : Thread) (prio : Prio) → ceiling ≡ (limits_of config thread.proc.user.0).ceiling → step w (SetPrio thread prio)
       ≡ record { world = world_of config (after_ranking ceiling c thread prio.0) ks hands; outcome = prio_outcome_in ceiling thread.proc.num thread.tid prio.0 (row_at c.users thread.proc.user.0) }
   set_prio-step ceiling thread prio is = rw is (ranked_under thread prio)
 
@@ -354,13 +355,13 @@ module _ (config : Configuration) (c : Channel) (ks : List (Option Kept)) (hands
   after_sound : (e : Step) (d : Channel) (outcome : Outcome) → ((user : ℕ) → exits e user ≡ false) → AreResourcesOf d ks → step w e ≡ record { world = world_of config d ks hands; outcome = outcome } → IsSound config d ks hands marks
   after_sound e d outcome stays users is = sound-step config c ks hands sound d ks hands e stays users (sym (ap (λ after. after.world) is))
 
-  pub spawn-sound : (ceiling : ℕ) (user : User) (threads : ℕ) (prio : Prio) → ceiling ≡ ceiling_of config user.0 → IsSound config (after_spawn ceiling c user.0 threads prio.0) ks hands marks
-  spawn-sound ceiling user threads prio is = after_sound _ _ _ (λ user. refl) (still-spawn c ks sound.users ceiling user.0 threads prio.0) (spawn-step ceiling user threads prio is)
+  pub spawn-sound : (limits : UserLimits) (user : User) (threads : ℕ) (prio : Prio) → limits ≡ limits_of config user.0 → IsSound config (after_spawn limits c user.0 threads prio.0) ks hands marks
+  spawn-sound limits user threads prio is = after_sound _ _ _ (λ user. refl) (still-spawn c ks sound.users limits user.0 threads prio.0) (spawn-step limits user threads prio is)
 
   pub take_reply-sound : (thread : Thread) → IsSound config (after_taking c thread) ks hands marks
   take_reply-sound thread = after_sound _ _ _ (λ user. refl) (still-taking c ks sound.users thread).of (take_reply-step thread)
 
-  pub set_prio-sound : (ceiling : ℕ) (thread : Thread) (prio : Prio) → ceiling ≡ ceiling_of config thread.proc.user.0 → IsSound config (after_ranking ceiling c thread prio.0) ks hands marks
+  pub set_prio-sound : (ceiling : ℕ) (thread : Thread) (prio : Prio) → ceiling ≡ (limits_of config thread.proc.user.0).ceiling → IsSound config (after_ranking ceiling c thread prio.0) ks hands marks
   set_prio-sound ceiling thread prio is = after_sound _ _ _ (λ user. refl) (still-ranking c ks sound.users ceiling thread prio.0) (set_prio-step ceiling thread prio is)
 
   still_called : (thread : Thread) (request : Request) (given : Result Addressed Outcome) → AreResourcesOf (after_call c thread request given) ks

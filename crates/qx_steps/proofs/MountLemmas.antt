@@ -204,4 +204,4 @@ can_by (Some ps) r mount can = can
 pub attached-can : (c : Channel) (ks : List (Option Kept)) (user : ℕ) (k : Kept) (mount : MountPoint) → k.user ≡ user → row_at ks user ≡ Some k → CanMount (row_at (parts_of c.users (told_all c ks)) user) mount → mounts.IsNextMount (mounts_of c.mounts user) k mount
 attached-can c ks user k mount own there can =
     let free : IsMountable (told k (lists c)) mount = can_by (row_at c.users user) (told k (lists c)) mount (rw (row_at-parts c.users (told_all c ks) user, told-there c ks user k there) at can) in
-    record { free = ap (λ number. mount_fault (mounts_of c.mounts number) mount.prefix) (sym own) ∙ free.0; next = free.1 }
+    record { free = ap (λ number. mount_fault k.limits.mounts (mounts_of c.mounts number) mount.prefix) (sym own) ∙ free.0; next = free.1 }

@@ -2,6 +2,7 @@
 use Rattle.std.proofs.Common.{length, ◌≡◌, inl, inr, ℕ, List, Option, Some, None, refl, ap}
 use Rattle.std.specs.Prelude.{is_some, map, option_map, slice_get}
 use Rattle.std.proofs.lemmas.Bool.{cases_Bool}
+use Rattle.qx_types.specs.UserLimits.{UserLimits}
 use Rattle.qx_types.specs.Configuration.{Configuration}
 use Rattle.qx_errno.specs.declared.Errno.TheVariants.{EINTR}
 use Rattle.qx_types.specs.declared.names.Manager.{Manager}
@@ -47,8 +48,8 @@ module _ (c : Channel) (ks : List (Option Kept)) (of : AreResourcesOf c ks) wher
   one : (user : ℕ) (change : List (Option Process) → List (Option Process)) → SameUsers (with_row c.users user change) ks
   one user change = same-with_processes c.users ks user change of.same
 
-  pub still-spawn : (ceiling user threads prio : ℕ) → AreResourcesOf (after_spawn ceiling c user threads prio) ks
-  still-spawn ceiling user threads prio = of-users c (after_spawn ceiling c user threads prio) ks of (one user (λ processes. spawned processes threads prio (spawn_number ceiling processes threads prio))) refl
+  pub still-spawn : (limits : UserLimits) (user threads prio : ℕ) → AreResourcesOf (after_spawn limits c user threads prio) ks
+  still-spawn limits user threads prio = of-users c (after_spawn limits c user threads prio) ks of (one user (λ processes. spawned processes threads prio (spawn_number limits processes threads prio))) refl
 
   -- memory was refused once there was room for nodes
   pub still-room : (room : ℕ) → AreResourcesOf (record c { room = room }) ks

@@ -133,15 +133,15 @@ impl World {
 
     /// Starts a process of 1 to 4 ready threads of a priority from 1 to the user's ceiling (System Architecture: processes and
     /// threads). `WrongState` for a user who is not configured; EINVAL for other numbers; EPERM for a priority above the
-    /// ceiling; EAGAIN where the user has 16 processes. A spawn that is refused wants no memory.
+    /// ceiling; EAGAIN where the user has as many processes as may be. A spawn that is refused wants no memory.
     pub fn spawn(&mut self, user: User, threads: u8, prio: Prio) -> Result<Outcome, AllocError>
         ensures outcome { IfOk result (λ outcome. outcome ≡ (machine.step self.old (Step.Spawn user threads prio)).outcome) }
         ensures world { OnOk result (self.new ≡ (machine.step self.old (Step.Spawn user threads prio)).world) }
         ensures sure { IsTrue (is_refusal (machine.step self.old (Step.Spawn user threads prio)).outcome) → IsOk result }
         ensures err { OnErr result (self.new ≡ self.old) }
     {
-        let ceiling = self.config.ceiling(user);
-        self.channel.spawn(ceiling, user, threads, prio)
+        let limits = self.config.limits(user);
+        self.channel.spawn(&limits, user, threads, prio)
     }
 
     /// A process ends (C Library Reference: `_exit`; System Architecture: a client that dies): its threads and connections go,
@@ -195,8 +195,8 @@ impl World {
         ensures outcome { result ≡ (machine.step self.old (Step.SetPrio thread prio)).outcome }
         ensures world { self.new ≡ (machine.step self.old (Step.SetPrio thread prio)).world }
     {
-        let ceiling = self.config.ceiling(thread.proc.user);
-        self.channel.set_prio(ceiling, thread, prio)
+        let limits = self.config.limits(thread.proc.user);
+        self.channel.set_prio(limits.ceiling(), thread, prio)
     }
 
     /// Asks to unblock a thread (System Architecture: the unblock pulse; C Library Reference: `MsgSend`, EINTR). A thread
@@ -241,7 +241,7 @@ impl World {
     /// A manager is attached at a path of the thread's user, with a root of its own (C Library Reference:
     /// `resmgr_attach`). `WrongState` where the thread is not there or not ready; then the errors of `read_path`, EACCES
     /// outside of the user's top, whoever has the path's first name, EEXIST where a mount is, and ENOSPC where the user has
-    /// 8 mounts or 1,024 inodes. A mount that is refused wants no memory.
+    /// as many mounts or inodes as may be. A mount that is refused wants no memory.
     pub fn mount(
         &mut self,
         thread: Thread,

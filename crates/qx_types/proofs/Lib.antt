@@ -1,2 +1,3 @@
 mod Different
+pub mod LimitLemmas
 pub mod Managers

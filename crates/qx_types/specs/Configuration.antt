@@ -1,13 +1,14 @@
 -- Who uses the system: names and numbers within the limits.
 use Rattle.std.specs.Prelude.{◌≡◌, ◌≢◌, ℕ, zero, suc, Option, None, get_or, slice_get, slice_set, unwrap_or, ◌-◌, ◌≤◌, Bool, false, ◌&&◌, ◌||◌, nat_le, IsTrue, List, [], ◌∷◌, length, All, AllPairs}
 use Rattle.std.specs.List.{list_all}
-use Rattle.qx_types.specs.declared.limits.TheConstants.Limits.{CEILING, NAME, PRIORITY, USERS, WORKERS}
+use Rattle.qx_types.specs.UserLimits.{AreLimits, UserLimits, default_limits, in_ranges}
+use Rattle.qx_types.specs.declared.limits.TheConstants.Limits.{NAME, USERS, WORKERS}
 
--- the users' names in the order of their numbers, the number of workers, and the users' ceilings in the same order
+-- the users' names in the order of their numbers, the number of workers, and the users' limits in the same order
 pub record Configuration : Type 0 where
   pub users : List (List ℕ)
   pub workers : ℕ
-  pub ceilings : List ℕ
+  pub limits : List UserLimits
 
 -- the name of the user with that number, from 1
 abbrev pub name_of : Configuration → ℕ → Option (List ℕ)
@@ -18,14 +19,18 @@ name_of c (suc n) = slice_get c.users n
 abbrev pub name_bytes : Configuration → ℕ → List ℕ
 name_bytes c user = unwrap_or (name_of c user) []
 
--- a user's ceiling, the greatest priority that the user may give a thread (this profile)
-abbrev pub ceiling_of : Configuration → ℕ → ℕ
-ceiling_of c zero = CEILING
-ceiling_of c (suc n) = get_or c.ceilings n CEILING
+-- the limits that stand under a user's number
+abbrev pub set_limits : Configuration → ℕ → UserLimits
+set_limits c zero = default_limits
+set_limits c (suc n) = get_or c.limits n default_limits
 
--- another ceiling of a user
-abbrev pub with_ceiling : Configuration → ℕ → ℕ → Configuration
-with_ceiling c user prio = record c { ceilings = slice_set c.ceilings (user - 1) prio }
+-- a user's limits, each of them in its range
+unfoldable pub limits_of : Configuration → ℕ → UserLimits
+limits_of c user = in_ranges (set_limits c user)
+
+-- other limits of a user
+abbrev pub with_limits : Configuration → ℕ → UserLimits → Configuration
+with_limits c user limits = record c { limits = slice_set c.limits (user - 1) limits }
 
 -- a lower-case ASCII letter
 abbrev pub is_letter : ℕ → Bool
@@ -48,7 +53,7 @@ pub record IsConfiguration (names : List (List ℕ)) (workers : ℕ) : Type 0 wh
   pub some_worker : 1 ≤ workers
   pub few_workers : workers ≤ WORKERS
 
--- each user has a ceiling, from 1 to the greatest priority
-pub record HasCeilings (c : Configuration) : Type 0 where
-  pub each_user : length c.ceilings ≡ length c.users
-  pub in_range : All (λ ceiling. (1 ≤ ceiling) × (ceiling ≤ PRIORITY)) c.ceilings
+-- each user has limits, within their ranges
+pub record HasLimits (c : Configuration) : Type 0 where
+  pub each_user : length c.limits ≡ length c.users
+  pub in_range : All AreLimits c.limits

@@ -3,3 +3,4 @@ pub mod Flags
 pub mod Managers
 pub mod Optional
 pub mod Step
+pub mod UserLimits

@@ -1,12 +1,14 @@
 ghost use Rattle.std.specs.Prelude.{◌≡◌, ◌↔◌, ◌≢◌, ◌≤◌, All, AllPairs, IsOk, IsTrue, IsSome, IfSome, OnErr, OnOk, length, replicate, unwrap_or};
 ghost use Rattle.std.specs.List.{list_all};
 ghost use Rattle.std.specs.Option.{option_copied};
-ghost use Rattle.qx_types.specs.declared.limits.TheConstants.Limits.{CEILING, USERS, WORKERS};
-ghost use Rattle.qx_types.specs.Configuration.{ceiling_of, is_letter_or_digit, is_user_name, name_bytes, name_of, with_ceiling, IsConfiguration};
+ghost use Rattle.qx_types.specs.declared.limits.TheConstants.Limits.{USERS, WORKERS};
+ghost use Rattle.qx_types.specs.Configuration.{is_letter_or_digit, is_user_name, limits_of, name_bytes, name_of, set_limits, with_limits, IsConfiguration};
+ghost use Rattle.qx_types.specs.UserLimits.{default_limits, most_of, with_limit};
 
 use crate::limits::Limits;
 use crate::names::{Prio, User};
 use crate::out_of_range::OutOfRange;
+use crate::user_limits::{LimitName, UserLimits};
 use arrayvec::ArrayVec;
 use qx_bytes::Bytes;
 use std::alloc::AllocError;
@@ -19,26 +21,26 @@ pub struct Config {
     names: Vec<Bytes>,
     workers: u8,
     // In the value itself, so that to set one takes no memory.
-    ceilings: Ceilings,
+    limits: AllLimits,
 }
 
 /// How many users there may be.
 const PLACES: usize = Limits::USERS;
 
-/// A ceiling for each user.
-type Ceilings = ArrayVec<u8, PLACES>;
+/// Limits for each user.
+type AllLimits = ArrayVec<UserLimits, PLACES>;
 
 impl Model for Config {
     ghost use Rattle.qx_types.specs.Configuration.{Configuration};
 
     ghost Value = { Configuration };
 
-    ghost view = { λ c. record { users = c.names.items; workers = c.workers; ceilings = c.ceilings.items } };
+    ghost view = { λ c. record { users = c.names.items; workers = c.workers; limits = c.limits.items } };
 
     ghost use Rattle.std.specs.Prelude.{◌≡◌, ◌≤◌, length, vec_len};
     ghost use Rattle.qx_types.specs.declared.limits.TheConstants.Limits.{USERS, WORKERS};
 
-    ghost invariant = { λ c. (vec_len c.names ≤ USERS) × (c.workers ≤ WORKERS) × (length c.ceilings.items ≡ length c.names.items) };
+    ghost invariant = { λ c. (vec_len c.names ≤ USERS) × (c.workers ≤ WORKERS) × (length c.limits.items ≡ length c.names.items) };
 }
 
 // Written out and not derived, so that its contract says outright that the copy is equal.
@@ -49,27 +51,27 @@ impl Clone for Config {
         Ok(Config {
             names: self.names.clone()?,
             workers: self.workers,
-            ceilings: self.ceilings.clone()?,
+            limits: self.limits.clone()?,
         })
     }
 }
 
 impl Config {
-    /// A configuration, exactly where the names and numbers are within the limits and no two names are equal. Each user's
-    /// ceiling is 63.
+    /// A configuration, exactly where the names and numbers are within the limits and no two names are equal. Each user has
+    /// the default of each limit, and the ceiling 63.
     pub fn new(names: Vec<Bytes>, workers: u8) -> Option<Config>
         ensures valid { IsSome result ↔ IsConfiguration names.items workers }
-        ensures value { IfSome result (λ c. c ≡ record { users = names.items; workers = workers; ceilings = replicate (length names.items) CEILING }) }
+        ensures value { IfSome result (λ c. c ≡ record { users = names.items; workers = workers; limits = replicate (length names.items) default_limits }) }
     {
         if names.len() <= Limits::USERS
             && (1..=Limits::WORKERS).contains(&workers)
             && are_names(&names)
         {
-            let ceilings = default_ceilings(names.len());
+            let limits = default_limits(names.len());
             Some(Config {
                 names,
                 workers,
-                ceilings,
+                limits,
             })
         } else {
             None
@@ -80,29 +82,65 @@ impl Config {
     /// call for a user holds. `OutOfRange` for a user who is not there, and for 0.
     pub fn set_ceiling(&mut self, user: User, prio: Prio) -> Result<(), OutOfRange>
         ensures variant { IsOk result ↔ ((1 ≤ user.0) × (user.0 ≤ length self.old.users) × (1 ≤ prio.0)) }
-        ensures ok { OnOk result (self.new ≡ with_ceiling self.old user.0 prio.0) }
+        ensures ok { OnOk result (self.new ≡ with_limits self.old user.0 (record (limits_of self.old user.0) { ceiling = prio.0 })) }
         ensures err { OnErr result (self.new ≡ self.old) }
     {
-        if user.0 == 0 || usize::from(user.0) > self.names.len() || prio.0 == 0 {
+        if !self.has(user) || prio.0 == 0 {
             return Err(OutOfRange);
         }
-        self.ceilings[usize::from(user.0) - 1] = prio.0;
+        let mut limits = self.limits(user);
+        limits.set_ceiling(prio);
+        self.put_limits(user, limits);
         Ok(())
     }
 
-    /// A user's ceiling.
-    pub fn ceiling(&self, user: User) -> Prio
-        ensures ceiling { result.0 ≡ ceiling_of self.now user.0 }
+    /// Sets one limit of a user, from 1 to its default (this profile). The last call for a user and a limit holds.
+    /// `OutOfRange` for a user who is not there, for 0, and for more than the default.
+    pub fn set_limit(&mut self, user: User, name: LimitName, n: usize) -> Result<(), OutOfRange>
+        ensures variant { IsOk result ↔ ((1 ≤ user.0) × (user.0 ≤ length self.old.users) × (1 ≤ n) × (n ≤ most_of name)) }
+        ensures ok { OnOk result (self.new ≡ with_limits self.old user.0 (with_limit name n (limits_of self.old user.0))) }
+        ensures err { OnErr result (self.new ≡ self.old) }
     {
-        Prio(self.ceiling_at(user).unwrap_or(Limits::CEILING))
+        if !self.has(user) || n == 0 || n > name.most() {
+            return Err(OutOfRange);
+        }
+        let mut limits = self.limits(user);
+        limits.set(name, n);
+        self.put_limits(user, limits);
+        Ok(())
     }
 
-    /// The ceiling that stands under a user's number.
-    fn ceiling_at(&self, user: User) -> Option<u8>
-        ensures ceiling { unwrap_or result CEILING ≡ ceiling_of self.now user.0 }
+    /// A user's limits.
+    #[tactic(auto, unfolding(crate::specs::Configuration::limits_of), using(crate::proofs::LimitLemmas::in_ranges_same))]
+    pub fn limits(&self, user: User) -> UserLimits
+        ensures limits { result ≡ limits_of self.now user.0 }
+    {
+        let limits = self.limits_at(user).unwrap_or_default();
+        limits.know();
+        limits
+    }
+
+    /// The limits that stand under a user's number.
+    fn limits_at(&self, user: User) -> Option<UserLimits>
+        ensures limits { unwrap_or result default_limits ≡ set_limits self.now user.0 }
     {
         let index = usize::from(user.0).checked_sub(1)?;
-        self.ceilings.get(index).copied()
+        self.limits.get(index).copied()
+    }
+
+    /// Puts limits in the place of a user's.
+    fn put_limits(&mut self, user: User, limits: UserLimits)
+        requires user { (1 ≤ user.0) × (user.0 ≤ length self.old.users) }
+        ensures put { self.new ≡ with_limits self.old user.0 limits }
+    {
+        self.limits[usize::from(user.0) - 1] = limits;
+    }
+
+    /// Whether there is that user.
+    fn has(&self, user: User) -> bool
+        ensures has { IsTrue result ↔ ((1 ≤ user.0) × (user.0 ≤ length self.now.users)) }
+    {
+        user.0 > 0 && usize::from(user.0) <= self.names.len()
     }
 
     /// Whether the bytes are a user's name: 1 to 16 lower-case ASCII letters and digits, a letter first.
@@ -161,14 +199,14 @@ impl Config {
     }
 }
 
-/// The ceilings of so many users where none is set.
-fn default_ceilings(users: usize) -> Ceilings
+/// The limits of so many users where none is set.
+fn default_limits(users: usize) -> AllLimits
     requires few { users ≤ USERS }
-    ensures ceilings { result.items ≡ replicate users CEILING }
+    ensures limits { result.items ≡ replicate users default_limits }
 {
-    let mut ceilings = ArrayVec::from([Limits::CEILING; PLACES]);
-    ceilings.truncate(users);
-    ceilings
+    let mut limits = ArrayVec::from([UserLimits::default(); PLACES]);
+    limits.truncate(users);
+    limits
 }
 
 /// Whether all names are users' names and no two of them are equal.

@@ -5,6 +5,7 @@
 //! - `request.rt`, `step.rt`, `outcome.rt`: requests; steps, and who takes one; answers and outcomes
 //! - `no_memory.rt`, `out_of_range.rt`: that a growth was refused; that a setting was
 //! - `limits.rt`: every limit, under the name by which definitions and code cite it
+//! - `user_limits.rt`: the limits that a configuration may set for one user
 //! - `config.rt`: a configuration, accepted or not
 //! - `flags.rt`: the flags of an open; the conditions of a notification
 //! - `fields.rt`: where a seek counts from; what a notification is to do, and the value of its pulse
@@ -24,6 +25,7 @@ pub mod out_of_range;
 pub mod outcome;
 pub mod request;
 pub mod step;
+pub mod user_limits;
 
 pub use config::Config;
 pub use fields::{NotifyAction, PulseValue, Whence};
@@ -39,3 +41,4 @@ pub use qx_devices::Device;
 pub use qx_errno::Errno;
 pub use request::Request;
 pub use step::Step;
+pub use user_limits::{LimitName, UserLimits};

@@ -12,6 +12,8 @@ impl Limits {
     pub const PROCESSES: usize = 16;
     /// Threads of a process.
     pub const THREADS: u8 = 4;
+    /// Connections of a process.
+    pub const CONNECTIONS: usize = 64;
     /// The least number of a connection.
     pub const FIRST_CONNECTION: usize = 3;
     /// The greatest number of a connection.

@@ -8,10 +8,12 @@ use Rattle.qx_types.specs.declared.fields.NotifyAction.TheVariants.{Poll, PollAr
 use Rattle.qx_types.specs.declared.fields.Whence.{Whence}
 use Rattle.qx_types.specs.declared.fields.Whence.TheVariants.{Set, Current, End}
 use Rattle.qx_types.specs.declared.flags.Conds.{Conds}
+use Rattle.qx_types.specs.declared.user_limits.LimitName.{LimitName}
+use Rattle.qx_types.specs.declared.user_limits.LimitName.TheVariants.{Processes, Connections, Servers, Blocks, Inodes, File, Bytes, Mounts, Events}
 use Rattle.qx_types.specs.declared.names.Manager.{Manager}
 use Rattle.qx_types.specs.Managers.{manager_number, managers}
 use Rattle.qx_types.proofs.Managers.{manager_at}
-use Rattle.qx_words.specs.FixedWords.{action_of, action_text, conditions_named, conditions_of, conditions_text, manager_of, manager_text, whence_of, whence_text}
+use Rattle.qx_words.specs.FixedWords.{action_of, action_text, conditions_named, conditions_of, conditions_text, limit_of, limit_text, manager_of, manager_text, whence_of, whence_text}
 use Rattle.qx_words.specs.Kinds.{is_word}
 
 -- it is one word, which is read as the value
@@ -50,6 +52,18 @@ unfolding action_of
 action_word Poll = (refl, refl)
 action_word PollArm = (refl, refl)
 action_word TranArm = (refl, refl)
+
+pub limit_word : (limit : LimitName) → IsWordOf limit_of limit (limit_text limit)
+unfolding limit_of
+limit_word Processes = (refl, refl)
+limit_word Connections = (refl, refl)
+limit_word Servers = (refl, refl)
+limit_word Blocks = (refl, refl)
+limit_word Inodes = (refl, refl)
+limit_word File = (refl, refl)
+limit_word Bytes = (refl, refl)
+limit_word Mounts = (refl, refl)
+limit_word Events = (refl, refl)
 
 bits_word : (bits : ℕ) → 1 ≤ bits → bits ≤ 3 → IsWordOf conditions_of (conditions_named bits) (conditions_text (conditions_named bits))
 unfolding conditions_of

@@ -4,10 +4,10 @@ use Rattle.std.specs.Prelude.{nat_le}
 use Rattle.std.proofs.lemmas.Bool.Decides.{nat_tests}
 use Rattle.std.proofs.lemmas.Option.{cond_some}
 use Rattle.qx_types.specs.Configuration.{Configuration, IsConfiguration, is_user_name}
-use Rattle.qx_words.specs.Kinds.{AName, AUser, AProcess, AThread, ANumber, AnOffset, APath, SomeFlags, AMode, SomeBytes, AHexByte, AManager, AWhence, AnAction, SomeConditions, CanName, Kind, Value, is_word, value_of, value_text}
+use Rattle.qx_words.specs.Kinds.{AName, AUser, AProcess, AThread, ANumber, AnOffset, APath, SomeFlags, AMode, SomeBytes, AHexByte, AManager, AWhence, AnAction, ALimit, SomeConditions, CanName, Kind, Value, is_word, value_of, value_text}
 use Rattle.qx_words.specs.Words.{greatest_moment, name_in_word}
 use Rattle.qx_words.proofs.ReadBytes.{bytes_again, bytes_are_word, bytes_within, hex_byte_again, hex_byte_is_word, hex_byte_within}
-use Rattle.qx_words.proofs.ReadFixedWords.{action_word, conditions_within, conditions_word, manager_word, whence_word}
+use Rattle.qx_words.proofs.ReadFixedWords.{action_word, conditions_within, conditions_word, limit_word, manager_word, whence_word}
 use Rattle.qx_words.proofs.ReadOffsets.{offset_again, offset_is_word, offset_within}
 use Rattle.qx_words.proofs.ReadValues.{flags_within, mode_within, number_within, of_some, process_within, thread_within, user_within}
 use Rattle.qx_words.proofs.ReadWords.{chosen, flags_again, flags_are_word, mode_again, mode_is_word, name_is_word, number_again, number_is_word, process_again, process_is_word, thread_again, thread_is_word, user_again, user_is_word}
@@ -39,6 +39,7 @@ value_again AHexByte config value valid can = hex_byte_again value can
 value_again AManager config value valid can = (manager_word value).1
 value_again AWhence config value valid can = (whence_word value).1
 value_again AnAction config value valid can = (action_word value).1
+value_again ALimit config value valid can = (limit_word value).1
 value_again SomeConditions config value valid can = (conditions_word value can.0 can.1).1
 
 pub value_is_word : (kind : Kind) (config : Configuration) (value : Value kind) → IsConfiguration config.users config.workers → CanName kind config.users value
@@ -57,6 +58,7 @@ value_is_word AHexByte config value valid can = hex_byte_is_word value can
 value_is_word AManager config value valid can = (manager_word value).0
 value_is_word AWhence config value valid can = (whence_word value).0
 value_is_word AnAction config value valid can = (action_word value).0
+value_is_word ALimit config value valid can = (limit_word value).0
 value_is_word SomeConditions config value valid can = (conditions_word value can.0 can.1).0
 
 pub value_within : (kind : Kind) (users : List (List ℕ)) (word : List ℕ) (value : Value kind) → is_word word ≡ true → value_of kind users word ≡ Some value
@@ -75,4 +77,5 @@ value_within AHexByte users word value is got = hex_byte_within word value got
 value_within AManager users word value is got = tt
 value_within AWhence users word value is got = tt
 value_within AnAction users word value is got = tt
+value_within ALimit users word value is got = tt
 value_within SomeConditions users word value is got = conditions_within word value got

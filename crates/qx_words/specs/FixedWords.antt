@@ -9,6 +9,8 @@ use Rattle.qx_types.specs.declared.fields.NotifyAction.TheVariants.{Poll, PollAr
 use Rattle.qx_types.specs.declared.fields.Whence.{Whence}
 use Rattle.qx_types.specs.declared.fields.Whence.TheVariants.{Set, Current, End}
 use Rattle.qx_types.specs.declared.flags.Conds.{Conds}
+use Rattle.qx_types.specs.declared.user_limits.LimitName.{LimitName}
+use Rattle.qx_types.specs.declared.user_limits.LimitName.TheVariants.{Processes, Connections, Servers, Blocks, Inodes, File, Bytes, Mounts, Events}
 use Rattle.qx_types.specs.declared.names.Manager.{Manager}
 use Rattle.qx_types.specs.declared.names.Manager.TheVariants.{Ram, Pipe, Device}
 
@@ -39,6 +41,20 @@ action_text TranArm = codes "tranarm"
 
 unfoldable pub action_of : List ℕ → Option NotifyAction
 action_of word = value_with action_text (Poll ∷ PollArm ∷ TranArm ∷ []) word
+
+abbrev pub limit_text : LimitName → List ℕ
+limit_text Processes = codes "processes"
+limit_text Connections = codes "connections"
+limit_text Servers = codes "servers"
+limit_text Blocks = codes "blocks"
+limit_text Inodes = codes "inodes"
+limit_text File = codes "file"
+limit_text Bytes = codes "bytes"
+limit_text Mounts = codes "mounts"
+limit_text Events = codes "events"
+
+unfoldable pub limit_of : List ℕ → Option LimitName
+limit_of word = value_with limit_text (Processes ∷ Connections ∷ Servers ∷ Blocks ∷ Inodes ∷ File ∷ Bytes ∷ Mounts ∷ Events ∷ []) word
 
 -- input, output or both
 abbrev pub conditions_text : Conds → List ℕ

@@ -10,11 +10,12 @@ use Rattle.qx_types.specs.declared.fields.Whence.{Whence}
 use Rattle.qx_types.specs.declared.flags.Conds.{Conds}
 use Rattle.qx_types.specs.declared.flags.OFlags.{OFlags}
 use Rattle.qx_types.specs.declared.limits.TheConstants.Limits.{MODE}
+use Rattle.qx_types.specs.declared.user_limits.LimitName.{LimitName}
 use Rattle.qx_types.specs.declared.names.Manager.{Manager}
 use Rattle.qx_types.specs.declared.names.Proc.{Proc}
 use Rattle.qx_types.specs.declared.names.Thread.{Thread}
 use Rattle.qx_types.specs.declared.names.User.{User}
-use Rattle.qx_words.specs.FixedWords.{action_of, action_text, conditions_of, conditions_text, manager_of, manager_text, whence_of, whence_text}
+use Rattle.qx_words.specs.FixedWords.{action_of, action_text, conditions_of, conditions_text, limit_of, limit_text, manager_of, manager_text, whence_of, whence_text}
 use Rattle.qx_words.specs.WordText.{bytes_text, flags_text, mode_text, process_text, thread_text, user_text}
 use Rattle.qx_words.specs.Words.{bytes_in_word, flags_of, greatest_byte, greatest_moment, greatest_of_four_bytes, greatest_of_two_bytes, hex_byte_of, mode_of, name_in_word, number_of, offset_of, process_in_word, thread_in_word, user_in_word}
 
@@ -53,6 +54,7 @@ pub data Kind : Type 0 where
   AManager : Kind
   AWhence : Kind
   AnAction : Kind
+  ALimit : Kind
   SomeConditions : Kind
 
 abbrev pub AByte : Kind
@@ -86,6 +88,7 @@ Value AHexByte = ℕ
 Value AManager = Manager
 Value AWhence = Whence
 Value AnAction = NotifyAction
+Value ALimit = LimitName
 Value SomeConditions = Conds
 
 -- how it is read, where the users have these names
@@ -104,6 +107,7 @@ value_of AHexByte users word = hex_byte_of word
 value_of AManager users word = manager_of word
 value_of AWhence users word = whence_of word
 value_of AnAction users word = action_of word
+value_of ALimit users word = limit_of word
 value_of SomeConditions users word = conditions_of word
 
 -- how it is printed
@@ -122,6 +126,7 @@ value_text AHexByte config byte = encode_lower (byte ∷ [])
 value_text AManager config manager = manager_text manager
 value_text AWhence config whence = whence_text whence
 value_text AnAction config action = action_text action
+value_text ALimit config limit = limit_text limit
 value_text SomeConditions config conditions = conditions_text conditions
 
 -- which values have a word: flags are one or more of the seven, conditions one or both
@@ -140,4 +145,5 @@ CanName AHexByte users byte = byte ≤ greatest_byte
 CanName AManager users manager = Unit {0}
 CanName AWhence users whence = Unit {0}
 CanName AnAction users action = Unit {0}
+CanName ALimit users limit = Unit {0}
 CanName SomeConditions users conditions = (1 ≤ conditions.0) × (conditions.0 ≤ 3)

@@ -1,10 +1,10 @@
 //! The kinds of a few fixed words.
 
 ghost use Rattle.std.specs.Prelude.{◌≡◌};
-ghost use Rattle.qx_words.specs.FixedWords.{action_of, conditions_of, manager_of, whence_of};
+ghost use Rattle.qx_words.specs.FixedWords.{action_of, conditions_of, limit_of, manager_of, whence_of};
 
 use crate::text::manager_word;
-use qx_types::{Conds, Manager, NotifyAction, Whence};
+use qx_types::{Conds, LimitName, Manager, NotifyAction, Whence};
 
 /// A manager, by the word that is printed of it.
 #[tactic(auto, unfolding(crate::specs::FixedWords::manager_of))]
@@ -47,6 +47,34 @@ pub fn action(word: &[u8]) -> Option<NotifyAction>
         Some(NotifyAction::PollArm)
     } else if word == b"tranarm".as_slice() {
         Some(NotifyAction::TranArm)
+    } else {
+        None
+    }
+}
+
+/// A limit of a user, by its name in small letters.
+#[tactic(auto, unfolding(crate::specs::FixedWords::limit_of))]
+pub fn limit_name(word: &[u8]) -> Option<LimitName>
+    ensures limit { result ≡ limit_of word.now }
+{
+    if word == b"processes".as_slice() {
+        Some(LimitName::Processes)
+    } else if word == b"connections".as_slice() {
+        Some(LimitName::Connections)
+    } else if word == b"servers".as_slice() {
+        Some(LimitName::Servers)
+    } else if word == b"blocks".as_slice() {
+        Some(LimitName::Blocks)
+    } else if word == b"inodes".as_slice() {
+        Some(LimitName::Inodes)
+    } else if word == b"file".as_slice() {
+        Some(LimitName::File)
+    } else if word == b"bytes".as_slice() {
+        Some(LimitName::Bytes)
+    } else if word == b"mounts".as_slice() {
+        Some(LimitName::Mounts)
+    } else if word == b"events".as_slice() {
+        Some(LimitName::Events)
     } else {
         None
     }

@@ -2,7 +2,8 @@ ghost use Rattle.std.specs.Prelude.{true, false, ◌≡◌, ◌<◌, ◌≤◌, 
 ghost use Rattle.std.specs.List.{list_any};
 ghost use Rattle.std.specs.Str.{bytes_eq};
 ghost use Rattle.qx_types.specs.Configuration.{is_user_name};
-ghost use Rattle.qx_types.specs.declared.limits.TheConstants.Limits.{CEILING, USERS, WORKERS};
+ghost use Rattle.qx_types.specs.declared.limits.TheConstants.Limits.{USERS, WORKERS};
+ghost use Rattle.qx_types.specs.UserLimits.{default_limits};
 ghost use Rattle.qx_words.specs.Words.{user_in_word};
 
 use qx_types::{Bytes, Config, Limits, NoMemory, User};
@@ -63,11 +64,11 @@ impl Users {
         Ok(())
     }
 
-    /// The configuration of these users and so many workers, in which no ceiling is set.
+    /// The configuration of these users and so many workers, in which nothing is set for any.
     pub fn into_config(self, workers: u8) -> Config
         requires some { 1 ≤ workers }
         requires few { workers ≤ WORKERS }
-        ensures config { result ≡ record { users = self; workers = workers; ceilings = replicate (length self) CEILING } }
+        ensures config { result ≡ record { users = self; workers = workers; limits = replicate (length self) default_limits } }
     {
         let Users { names } = self;
         match Config::new(names, workers) {

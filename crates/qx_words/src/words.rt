@@ -4,7 +4,7 @@ ghost use Rattle.std.specs.List.{list_all};
 ghost use Rattle.qx_types.specs.Configuration.{is_user_name};
 ghost use Rattle.qx_words.specs.Words.{byte_of, flag_of, flags_after, flags_of, greatest_of_four_bytes, greatest_of_two_bytes, is_numeral, lines_of, mode_of, moment_of, name_in_word, negative, number_of, octal_of, offset_of, around_dot, process_in_word, thread_in_word, words_of};
 
-pub use crate::fixed_words::{action, conditions, manager, whence};
+pub use crate::fixed_words::{action, conditions, limit_name, manager, whence};
 pub use crate::hexadecimal::{bytes, hex_byte};
 use crate::users::Users;
 use qx_types::{Config, OFlags, Proc, Thread};

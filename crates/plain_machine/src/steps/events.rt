@@ -24,13 +24,10 @@ pub fn next_notifying(dice: &mut Dice, plain: &Plain, proc: Proc) -> Request {
     next_notify(dice, coid)
 }
 
-/// So many events and pulses a user may have.
-pub const FULL: usize = 128;
-
 /// For most users, something to arm on what has nothing armed, so that they come to have as many events as they may; and
 /// now and then where they have so many.
 pub fn next_arming(dice: &mut Dice, plain: &Plain, proc: Proc) -> Option<Request> {
-    let is_full = plain.event_count(proc.user) >= FULL;
+    let is_full = plain.is_full_of_events(proc.user);
     if proc.user == User(2) || is_full && !dice.one_in(2) {
         return None;
     }

@@ -3,7 +3,7 @@
 use crate::Plain;
 use crate::steps::choice::{any_worker, next_thread, waiting_thread};
 use crate::steps::dice::Dice;
-use crate::steps::events::{FULL, pulsed_process};
+use crate::steps::events::pulsed_process;
 use qx_types::{Proc, Step, User};
 
 /// The first processes of a user are to last, so that much comes to be open.
@@ -15,7 +15,7 @@ const LASTING: u8 = 6;
 pub fn next_exit(dice: &mut Dice, plain: &Plain) -> Option<Step> {
     let proc = next_process(dice, plain);
     let is_full = plain.is_full(proc.user)
-        || proc.user == User(1) && plain.event_count(proc.user) >= FULL && dice.one_in(16);
+        || proc.user == User(1) && plain.is_full_of_events(proc.user) && dice.one_in(16);
     if is_full && (!is_lasting(proc) || dice.one_in(64)) {
         Some(Step::Exit { proc })
     } else {

@@ -3,14 +3,15 @@
 use crate::events::{Event, INPUT, OUTPUT};
 use crate::files::fault::Fault;
 use crate::files::rows::{Content, Files};
-use qx_types::{Errno, OFlags, Proc, User};
+use qx_types::{Errno, LimitName, OFlags, Proc, User};
 use std::alloc::AllocError;
 
 impl Files {
     /// The status of a notification over a block: to poll (0), to arm (2), or to arm where it has none to tell of (1).
     pub fn notify(&mut self, action: u16, event: Event) -> Result<u64, Fault> {
         let holding = self.conditions(event.proc.user, event.block)?;
-        self.events.notify(action, event, holding)
+        let most = self.limit(event.proc.user, LimitName::Events);
+        self.events.notify(most, action, event, holding)
     }
 
     /// At the end of a step, the due events give their pulses, but for those of processes that have ended.

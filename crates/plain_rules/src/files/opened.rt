@@ -4,14 +4,10 @@ use crate::files::fault::Fault;
 use crate::files::rows::{Block, Content, Files, Inode};
 use crate::files::walk::name_in;
 use crate::pipes::Answers;
-use qx_types::{Errno, OFlags, User};
+use qx_types::{Errno, LimitName, OFlags, User};
 use std::alloc::AllocError;
 
-/// The most bytes of a file, of all files of a user, and of a list of names.
-const FILE: usize = 65_536;
-
-const FILES: usize = 1_048_576;
-
+/// The most bytes of a list of names.
 const LIST: usize = 4_096;
 
 /// The most connections that have a block.
@@ -61,10 +57,11 @@ impl Files {
             usize::try_from(opened.offset).unwrap_or(usize::MAX)
         };
         let end = offset.saturating_add(bytes.len());
-        if end > FILE {
+        if end > self.limit(user, LimitName::File) {
             return Err(Fault::Refused(Errno::EFBIG));
         }
-        if self.total(user).saturating_add(end.saturating_sub(size)) > FILES {
+        let total = self.total(user).saturating_add(end.saturating_sub(size));
+        if total > self.limit(user, LimitName::Bytes) {
             return Err(Fault::Refused(Errno::ENOSPC));
         }
         if let Some(inode) = self.inode_mut(user, opened.inode)

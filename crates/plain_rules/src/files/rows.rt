@@ -2,7 +2,7 @@
 
 use crate::events::Events;
 use crate::pipes::Pipe;
-use qx_types::{Bytes, Errno, Manager, OFlags, Proc, User};
+use qx_types::{Bytes, Config, Errno, LimitName, Manager, OFlags, Proc, User};
 use std::alloc::{AllocError, Global};
 
 /// Where a message to a path leads: the user, the manager and the inode of the mount's root, and the rest of the path;
@@ -72,10 +72,12 @@ impl Block {
     }
 }
 
-/// All files, directories, pipes and devices, paths to them, open blocks in order of opening, and what was armed on these.
+/// All files, directories, pipes and devices, paths to them, open blocks in order of opening, and what was armed on these; and
+/// who the users are and what each may hold.
 #[derive(Drop)]
 pub struct Files {
     pub alloc: Global,
+    pub config: Config,
     pub inodes: Vec<Inode>,
     pub names: Vec<Name>,
     pub blocks: Vec<Block>,
@@ -84,9 +86,10 @@ pub struct Files {
 
 impl Files {
     /// No file, directory, pipe, device or block.
-    pub fn new(alloc: Global) -> Files {
+    pub fn new(alloc: Global, config: Config) -> Files {
         Files {
             alloc,
+            config,
             inodes: Vec::new(alloc),
             names: Vec::new(alloc),
             blocks: Vec::new(alloc),
@@ -140,19 +143,28 @@ impl Files {
         Ok(())
     }
 
+    /// One of a user's limits.
+    pub fn limit(&self, user: User, name: LimitName) -> usize {
+        self.config.limits(user).get(name)
+    }
+
     /// The lowest number that no inode of the user has.
     pub fn free_inode(&self, user: User) -> Result<u16, Errno> {
         match (1..=1_024).find(|number| self.inode(user, *number).is_none()) {
-            Some(number) => Ok(number),
-            None => Err(Errno::ENOSPC),
+            Some(number) if usize::from(number) <= self.limit(user, LimitName::Inodes) => {
+                Ok(number)
+            }
+            _ => Err(Errno::ENOSPC),
         }
     }
 
     /// The lowest number that no block of the user has.
     pub fn free_block(&self, user: User) -> Result<u16, Errno> {
         match (1..=256).find(|number| self.block(user, *number).is_none()) {
-            Some(number) => Ok(number),
-            None => Err(Errno::ENFILE),
+            Some(number) if usize::from(number) <= self.limit(user, LimitName::Blocks) => {
+                Ok(number)
+            }
+            _ => Err(Errno::ENFILE),
         }
     }
 
@@ -172,12 +184,9 @@ impl Files {
         self.blocks.iter().any(|block| block.server == server)
     }
 
-    /// How many blocks a user has.
-    pub fn block_count(&self, user: User) -> usize {
-        self.blocks
-            .iter()
-            .filter(|block| block.user == user)
-            .count()
+    /// Whether a user can have no further block.
+    pub fn is_full(&self, user: User) -> bool {
+        self.free_block(user).is_err()
     }
 
     /// The offset of a block for writing.

@@ -25,7 +25,7 @@ mount_in w thread path manager = mount_from w.config thread path manager (row_at
 
 -- nothing refuses a mount at its prefix, and its root is the next inode
 abbrev pub IsMountable : Resources → MountPoint → Type 0
-IsMountable resources mount = (mount_fault resources.mounts mount.prefix ≡ None) × (inode_number resources.inodes ≡ Ok mount.root)
+IsMountable resources mount = (mount_fault resources.limits.mounts resources.mounts mount.prefix ≡ None) × (inode_number resources.inodes ≡ Ok mount.root)
 
 -- of a user who is there
 abbrev pub CanMount : Option Part → MountPoint → Type 0

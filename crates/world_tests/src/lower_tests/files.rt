@@ -5,7 +5,7 @@ use all_memory::take_all_memory;
 use qx_iofunc::Store;
 use qx_machine::{Client, Kind, Opened, ServerName, Wish};
 use qx_process::Reply;
-use qx_types::{Coid, Errno, Limits, Manager, OFlags, User, Whence};
+use qx_types::{Coid, Errno, Limits, Manager, OFlags, User, UserLimits, Whence};
 use qx_wire::Rest;
 use std::alloc::{AllocError, Global};
 use std::process::Abort;
@@ -59,7 +59,7 @@ impl Bench {
     /// The user 1, with no file.
     fn new(alloc: Global) -> Result<Bench, AllocError> {
         Ok(Bench {
-            store: Store::boot(alloc, User(1))?,
+            store: Store::boot(alloc, UserLimits::default(), User(1))?,
             reply: Reply::new(alloc)?,
             inode: 0,
         })

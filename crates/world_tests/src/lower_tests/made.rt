@@ -7,7 +7,8 @@ use qx_machine::{Attribute, Kind};
 use qx_paths::{Mount, Mounts, read_path};
 use qx_procs::Processes;
 use qx_types::{
-    Answer, Bytes, Config, Manager, MessageBytes, NoMemory, OFlags, OutOfRange, Outcome, Prio, User,
+    Answer, Bytes, Config, LimitName, Limits, Manager, MessageBytes, NoMemory, OFlags, OutOfRange,
+    Outcome, Prio, User, UserLimits,
 };
 use qx_wire::{Message, Rest, encode, in_ranges};
 use std::alloc::{AllocError, Global};
@@ -109,17 +110,57 @@ fn sets_ceilings(config: &mut Config) -> bool {
     config.set_ceiling(User(1), Prio(0)) == Err(OutOfRange)
         && config.set_ceiling(User(0), Prio(1)) == Err(OutOfRange)
         && config.set_ceiling(User(3), Prio(1)) == Err(OutOfRange)
-        && config.ceiling(User(1)) == Prio(63)
+        && config.limits(User(1)).ceiling() == Prio(63)
         && config.set_ceiling(User(2), Prio(1)) == Ok(())
         && config.set_ceiling(User(2), Prio(255)) == Ok(())
-        && config.ceiling(User(1)) == Prio(63)
-        && config.ceiling(User(2)) == Prio(255)
+        && config.limits(User(1)).ceiling() == Prio(63)
+        && config.limits(User(2)).ceiling() == Prio(255)
+}
+
+/// The names of all limits.
+const NAMES: [LimitName; 9] = [
+    LimitName::Processes,
+    LimitName::Connections,
+    LimitName::Servers,
+    LimitName::Blocks,
+    LimitName::Inodes,
+    LimitName::File,
+    LimitName::Bytes,
+    LimitName::Mounts,
+    LimitName::Events,
+];
+
+/// Whether each limit is set so.
+fn sets_limits(config: &mut Config) -> bool {
+    let mut is_good = true;
+    for name in NAMES {
+        is_good = sets_limit(config, name) && is_good;
+    }
+    is_good
+}
+
+/// Whether a limit is set from 1 to its default for users who are there, the last one holds, upwards too, and that of
+/// another user stays, as does the ceiling.
+fn sets_limit(config: &mut Config, name: LimitName) -> bool {
+    let most = name.most();
+    config.set_limit(User(1), name, 0) == Err(OutOfRange)
+        && config.set_limit(User(1), name, most + 1) == Err(OutOfRange)
+        && config.set_limit(User(0), name, 1) == Err(OutOfRange)
+        && config.set_limit(User(3), name, 1) == Err(OutOfRange)
+        && config.limits(User(1)).get(name) == most
+        && config.set_limit(User(2), name, 1) == Ok(())
+        && config.limits(User(2)).get(name) == 1
+        && config.set_limit(User(2), name, most) == Ok(())
+        && config.limits(User(2)).get(name) == most
+        && config.limits(User(1)).get(name) == most
+        && config.limits(User(2)).ceiling() == Prio(255)
 }
 
 fn names(alloc: Global) -> Result<bool, NoMemory> {
     match config(alloc)? {
         Some(mut config) => {
-            Ok(sets_ceilings(&mut config) && is_of_ann_and_bob(&config.clone()?))
+            let is_set = sets_ceilings(&mut config) && sets_limits(&mut config);
+            Ok(is_set && is_of_ann_and_bob(&config.clone()?))
         }
         None => Ok(false),
     }
@@ -161,7 +202,7 @@ fn mounted(alloc: Global) -> Result<bool, NoMemory> {
     }
     let mut mounts = Mounts::boot(alloc, &config, 1)?;
     let mount = Mount::new(alloc, &path, Manager::Pipe, 2)?;
-    if mounts.add(User(2), &path, mount).is_err() {
+    if mounts.add(2, User(2), &path, mount) != Ok(()) {
         return Ok(false);
     }
     match mounts.resolve(&config, User(2), &path) {
@@ -171,7 +212,7 @@ fn mounted(alloc: Global) -> Result<bool, NoMemory> {
 }
 
 fn spawned(alloc: Global) -> Result<bool, NoMemory> {
-    Ok(Processes::new(alloc)?.spawn(Prio(10), 2, Prio(10))? == Outcome::Spawned(1))
+    Ok(Processes::new(alloc)?.spawn(&UserLimits::default(), 2, Prio(10))? == Outcome::Spawned(1))
 }
 
 /// A file of user 1.
@@ -187,7 +228,7 @@ const ATTRIBUTE: Attribute = Attribute {
 
 /// An inode and an open control block, each under the first number.
 fn numbered(alloc: Global) -> Result<bool, NoMemory> {
-    let mut inodes = Inodes::new(alloc)?;
+    let mut inodes = Inodes::new(Limits::INODES, Limits::BLOCKS, alloc)?;
     let inode = inodes.new_inode(ATTRIBUTE)?;
     if inode != Ok(1) || inodes.attr(1).is_none() {
         return Ok(false);

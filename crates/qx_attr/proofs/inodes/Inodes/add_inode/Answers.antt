@@ -14,14 +14,16 @@ pub invariant_of-self : goal.invariant_of-self
 invariant_of-self c =
     let attrs = c.self.inside.attrs.items in
     let inodes = c.args.self.now.inodes in
-    let given = number_given INODES (lowest_from 1 inodes.attributes) _ c.args.number c.requires.number in
+    let given = number_given inodes.most_inodes (lowest_from 1 inodes.attributes) _ c.args.number c.requires.number in
     let unused : row_at inodes.attributes c.args.number ≡ None = ap (row_at inodes.attributes) given.0 ∙ lowest_from_free 1 inodes.attributes in
     let free : row_at attrs c.args.number ≡ None = none_before attribute_of attrs c.args.number (λ attr e. cc) (ap (λ (all : Reserved). row_at all.inodes.attributes c.args.number) c.self.view_is ∙ unused) in
     let longer = longer_put attrs c.args.number (unopened c.args.attribute) in
     rw (c.put_reserved.ensures.row, c.new.ensures, c.give_up_room.ensures.room) (record {
       counted = counted_inode attrs c.self.inside.blocks.rows c.args.number (unopened c.args.attribute) refl refl refl free c.self.invariant.counted;
       few = c.self.invariant.few;
-      few_inodes = few_rows attrs c.args.number INODES (unopened c.args.attribute) given.1 c.self.invariant.few_inodes;
+      few_inodes = few_rows attrs c.args.number INODES (unopened c.args.attribute) (let own = c.self.invariant.own_inodes in let is = ap (λ (all : Reserved). all.inodes.most_inodes) c.self.view_is in let below = given.1 in omega (arith, own, is, below)) c.self.invariant.few_inodes;
+      own_inodes = c.self.invariant.own_inodes;
+      own_blocks = c.self.invariant.own_blocks;
       numbers = omega arith;
       no_more = omega (arith, longer);
     })
@@ -36,6 +38,6 @@ returns c =
     let put = rows_put attribute_of c.self.inside.attrs.items c.args.number (unopened c.args.attribute) c.args.attribute refl in
     let number = c.args.number in
     rw (c.put_reserved.ensures.row, c.new.ensures, c.give_up_room.ensures.room) (record {
-      made = (λ i. with_number (record { attributes = put i; blocks = blocks.rows; made = blocks.made }) (Ok number)) ∙ rw (← c.self.view_is) (made _ number c.args.attribute (rw (← c.self.view_is) at c.requires.number));
+      made = (λ i. with_number (record { attributes = put i; blocks = blocks.rows; made = blocks.made; most_inodes = c.self.inside.most_inodes; most_blocks = c.self.inside.most_blocks }) (Ok number)) ∙ rw (← c.self.view_is) (made _ number c.args.attribute (rw (← c.self.view_is) at c.requires.number));
       room = rw (← c.self.view_is) refl;
     })

@@ -35,6 +35,8 @@ invariant_of-self-2 c =
       counted = counted_close attrs rows c.args.number c.in-Some.block attr there c.self.invariant.counted is;
       few = omega (arith, long, few);
       few_inodes = omega (arith, same);
+      own_inodes = c.self.invariant.own_inodes;
+      own_blocks = c.self.invariant.own_blocks;
       numbers = c.self.invariant.numbers;
       no_more = omega (arith, same);
     })
@@ -47,7 +49,7 @@ returns c =
     let same = same_attributes attrs c.in-Some.block.inode attr (uncounted c.in-Some.block.flags attr) there refl in
     let blocks = c.self.inside.blocks in
     rw (c.remove.ensures.row, c.uncounted.ensures, ← c.self.view_is) (record {
-      closed = λ i. record { inodes = record { attributes = same i; blocks = slice_set blocks.rows c.args.number None; made = filter (λ other. not (other == c.args.number)) blocks.made }; room = blocks.room };
+      closed = λ i. record { inodes = record { attributes = same i; blocks = slice_set blocks.rows c.args.number None; made = filter (λ other. not (other == c.args.number)) blocks.made; most_inodes = c.self.inside.most_inodes; most_blocks = c.self.inside.most_blocks }; room = blocks.room };
     })
 
 pub index_mut-requires : goal.index_mut-requires

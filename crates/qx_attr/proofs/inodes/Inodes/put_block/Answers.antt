@@ -21,6 +21,8 @@ invariant_of-self c =
       counted = counted_open attrs rows c.args.number c.args.block attr there c.self.invariant.counted free;
       few = few_rows rows c.args.number BLOCKS c.args.block c.requires.few c.self.invariant.few;
       few_inodes = omega (arith, long);
+      own_inodes = c.self.invariant.own_inodes;
+      own_blocks = c.self.invariant.own_blocks;
       numbers = omega arith;
       no_more = omega (arith, long);
     })
@@ -31,4 +33,4 @@ returns c =
     let attr = c.there-attr.result.now in
     let there : row_at attrs c.args.block.inode ≡ Some attr = cc in
     let same = same_attributes attrs c.args.block.inode attr (counted c.args.block.flags attr) there refl in
-    rw (c.put.ensures.row, c.counted.ensures, ← c.self.view_is) (λ i. record { inodes = record { attributes = same i; blocks = put_row c.self.inside.blocks.rows c.args.number c.args.block; made = c.self.inside.blocks.made ++ c.args.number ∷ [] }; room = c.self.inside.blocks.room - 1 })
+    rw (c.put.ensures.row, c.counted.ensures, ← c.self.view_is) (λ i. record { inodes = record { attributes = same i; blocks = put_row c.self.inside.blocks.rows c.args.number c.args.block; made = c.self.inside.blocks.made ++ c.args.number ∷ []; most_inodes = c.self.inside.most_inodes; most_blocks = c.self.inside.most_blocks }; room = c.self.inside.blocks.room - 1 })

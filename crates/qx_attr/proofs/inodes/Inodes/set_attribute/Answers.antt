@@ -22,6 +22,8 @@ invariant_of-self c =
       counted = counted_same attrs c.self.inside.blocks.rows c.args.inode c.self.invariant.counted attr now there refl refl refl;
       few = c.self.invariant.few;
       few_inodes = omega (arith, long);
+      own_inodes = c.self.invariant.own_inodes;
+      own_blocks = c.self.invariant.own_blocks;
       numbers = c.self.invariant.numbers;
       no_more = omega (arith, long);
     }
@@ -30,4 +32,4 @@ pub returns : goal.returns
 returns c =
     let now : Attr = record c.as_mut_unchecked.result.now { attribute = c.args.attribute } in
     let set = map-set attribute_of c.self.inside.attrs.items c.args.inode (Some now) in
-    rw (← c.self.view_is) (record { set = λ i. record { inodes = record { attributes = set i; blocks = c.self.inside.blocks.rows; made = c.self.inside.blocks.made }; room = c.self.inside.blocks.room } })
+    rw (← c.self.view_is) (record { set = λ i. record { inodes = record { attributes = set i; blocks = c.self.inside.blocks.rows; made = c.self.inside.blocks.made; most_inodes = c.self.inside.most_inodes; most_blocks = c.self.inside.most_blocks }; room = c.self.inside.blocks.room } })

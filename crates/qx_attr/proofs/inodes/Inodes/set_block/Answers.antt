@@ -17,6 +17,8 @@ invariant_of-self c =
       counted = counted_kept c.self.inside.attrs.items rows c.args.number c.args.block same_inode same_flags c.self.invariant.counted;
       few = omega (arith, long, few);
       few_inodes = c.self.invariant.few_inodes;
+      own_inodes = c.self.invariant.own_inodes;
+      own_blocks = c.self.invariant.own_blocks;
       numbers = c.self.invariant.numbers;
       no_more = c.self.invariant.no_more;
     })

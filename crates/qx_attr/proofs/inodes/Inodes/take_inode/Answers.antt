@@ -15,6 +15,8 @@ invariant_of-self c =
       counted = counted_free c.self.inside.attrs.items c.self.inside.blocks.rows c.args.inode c.self.invariant.counted none;
       few = c.self.invariant.few;
       few_inodes = omega (arith, long);
+      own_inodes = c.self.invariant.own_inodes;
+      own_blocks = c.self.invariant.own_blocks;
       numbers = omega arith;
       no_more = omega (arith, long);
     })
@@ -22,4 +24,4 @@ invariant_of-self c =
 pub returns : goal.returns
 returns c =
     let set = map-set attribute_of c.self.inside.attrs.items c.args.inode None in
-    rw (c.free.ensures.freed, ← c.self.view_is) (λ i. record { inodes = record { attributes = set i; blocks = c.self.inside.blocks.rows; made = c.self.inside.blocks.made }; room = c.self.inside.blocks.room })
+    rw (c.free.ensures.freed, ← c.self.view_is) (λ i. record { inodes = record { attributes = set i; blocks = c.self.inside.blocks.rows; made = c.self.inside.blocks.made; most_inodes = c.self.inside.most_inodes; most_blocks = c.self.inside.most_blocks }; room = c.self.inside.blocks.room })

@@ -8,7 +8,7 @@ use Rattle.qx_iofunc.proofs.store.Store.add_root.Goals as goal
 pub add_root-requires : goal.add_root-requires
 add_root-requires c =
     let t = c.self-inside.inside.0.0 in
-    let s : Stored = record { user = t.user.0; inodes = t.inodes.inodes; names = t.names; files = t.files.files } in
+    let s : Stored = record { user = t.user.0; inodes = t.inodes.inodes; names = t.names; files = t.files.files; limits = t.limits } in
     let fits : StoreFits s = rw (← c.self-inside.view_is) at c.self.invariant in
     let next : inode_number s.inodes ≡ Ok c.args.root = rw (← c.self.view_is, ← c.self-inside.view_is) at c.requires.next in
     record { new = (number_fresh s c.args.root next fits).0 }
@@ -16,7 +16,7 @@ add_root-requires c =
 pub invariant_of-self-2 : goal.invariant_of-self-2
 invariant_of-self-2 c =
     let t = c.self-inside.inside.0.0 in
-    let s : Stored = record { user = t.user.0; inodes = t.inodes.inodes; names = t.names; files = t.files.files } in
+    let s : Stored = record { user = t.user.0; inodes = t.inodes.inodes; names = t.names; files = t.files.files; limits = t.limits } in
     let fits : StoreFits s = rw (← c.self-inside.view_is) at c.self.invariant in
     let next : inode_number s.inodes ≡ Ok c.args.root = rw (← c.self.view_is, ← c.self-inside.view_is) at c.requires.next in
     let reserved : c.reserve.new.self.inodes ≡ s.inodes = ap (λ (r : Reserved). r.inodes) c.in_ok-reserve.ensures.ok in

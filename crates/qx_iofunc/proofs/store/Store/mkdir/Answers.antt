@@ -11,7 +11,7 @@ use Rattle.qx_iofunc.proofs.store.Store.mkdir.Goals.{In-Ok-may_make_directory}
 use Rattle.qx_iofunc.proofs.store.Store.mkdir.Goals as goal
 
 abbrev stored : In-Ok-may_make_directory → Stored
-stored c = let t = c.self-inside.inside.0.0 in record { user = t.user.0; inodes = t.inodes.inodes; names = t.names; files = t.files.files }
+stored c = let t = c.self-inside.inside.0.0 in record { user = t.user.0; inodes = t.inodes.inodes; names = t.names; files = t.files.files; limits = t.limits }
 
 fits : (c : In-Ok-may_make_directory) → StoreFits (stored c)
 fits c = rw (← c.self-inside.view_is) at c.self.invariant

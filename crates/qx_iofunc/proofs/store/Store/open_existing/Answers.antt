@@ -17,7 +17,7 @@ use Rattle.qx_iofunc.proofs.store.Store.open_existing.Goals.{Joined-contains, th
 emptied : (c : Joined-contains) → c.if-contains.self-inside.tables.stored ≡ emptied_in c.args.wish.flags c.args.inode c.args.wish.moment c.args.self.now.stored
 emptied c =
     let inside = c.self-inside.inside.0.0 in
-    let reserved = ap (λ (reserve : Reserved). record { user = inside.user.0; inodes = reserve.inodes; names = inside.names; files = inside.files.files }) c.in_ok-reserve.ensures.ok
+    let reserved = ap (λ (reserve : Reserved). record { user = inside.user.0; inodes = reserve.inodes; names = inside.names; files = inside.files.files; limits = inside.limits }) c.in_ok-reserve.ensures.ok
     ∙ (ap (λ (inside : Inside). inside.tables.stored) c.self-inside.view_is ∙ ap (λ (store : Store). store.stored) c.self.view_is) in
     let truncates = sym (c.contains.ensures tt) in
     elim c.if-contains.branch [

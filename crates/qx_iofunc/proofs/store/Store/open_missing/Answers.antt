@@ -18,7 +18,7 @@ use Rattle.qx_iofunc.proofs.store.Store.open_missing.Goals.{In_ok-make, In_ok-re
 use Rattle.qx_iofunc.proofs.store.Store.open_missing.Goals as goal
 
 abbrev stored : In_ok-reserve → Stored
-stored c = let t = c.self-inside.inside.0.0 in record { user = t.user.0; inodes = t.inodes.inodes; names = t.names; files = t.files.files }
+stored c = let t = c.self-inside.inside.0.0 in record { user = t.user.0; inodes = t.inodes.inodes; names = t.names; files = t.files.files; limits = t.limits }
 
 fits : (c : In_ok-reserve) → StoreFits (stored c)
 fits c = rw (← c.self-inside.view_is) at c.self.invariant
@@ -40,12 +40,12 @@ make-requires-clause-empty c = (fresh (goal.at.make-requires-clause-empty c).In_
 
 -- what there is once it is made
 made : (c : In_ok-make) → let t = c.self-inside.inside.0.0 in
-    c.make.new.self.stored ≡ with_made (spot_of t.names c.args.at) c.args.new.inode c.args.new.parent c.args.own c.args.wish.mode c.args.wish.moment (record { user = t.user.0; inodes = t.inodes.inodes; names = t.names; files = t.files.files })
+    c.make.new.self.stored ≡ with_made (spot_of t.names c.args.at) c.args.new.inode c.args.new.parent c.args.own c.args.wish.mode c.args.wish.moment (record { user = t.user.0; inodes = t.inodes.inodes; names = t.names; files = t.files.files; limits = t.limits })
 made c =
     let t = c.self-inside.inside.0.0 in
     let wish = c.args.wish in
     ap (λ (store : Store). store.stored) c.in_ok-make.ensures.ok
-    ∙ ap (λ (reserve : Reserved). with_made (spot_of t.names c.args.at) c.args.new.inode c.args.new.parent c.args.own wish.mode wish.moment (record { user = t.user.0; inodes = reserve.inodes; names = t.names; files = t.files.files })) c.in_ok-reserve.ensures.ok
+    ∙ ap (λ (reserve : Reserved). with_made (spot_of t.names c.args.at) c.args.new.inode c.args.new.parent c.args.own wish.mode wish.moment (record { user = t.user.0; inodes = reserve.inodes; names = t.names; files = t.files.files; limits = t.limits })) c.in_ok-reserve.ensures.ok
 
 pub add_block-requires-clause-there : goal.add_block-requires-clause-there
 add_block-requires-clause-there c =

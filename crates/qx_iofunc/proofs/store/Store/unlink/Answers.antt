@@ -19,7 +19,7 @@ remove-requires-clause-empty c =
 pub invariant_of-self : goal.invariant_of-self
 invariant_of-self c =
     let t = c.self-inside.inside.0.0 in
-    let s : Stored = record { user = t.user.0; inodes = t.inodes.inodes; names = t.names; files = t.files.files } in
+    let s : Stored = record { user = t.user.0; inodes = t.inodes.inodes; names = t.names; files = t.files.files; limits = t.limits } in
     let fits : StoreFits s = rw (← c.self-inside.view_is) at c.self.invariant in
     let at : of_names.Spot = spot_of s.names c.in_ok-at.at in
     let is : get s.names at.key ≡ Some c.in-Some.inode = sym (at_spot s.inodes s.names s.user c.args.root c.args.rest.now EBUSY at c.in_ok-at.ensures.spot) ∙ c.in-Some.is in

@@ -8,7 +8,7 @@ use Rattle.qx_iofunc.proofs.store.Store.write.Goals as goal
 pub invariant_of-self-2 : goal.invariant_of-self-2
 invariant_of-self-2 c =
     let t = c.self-inside.inside.0.0 in
-    let s : Stored = record { user = t.user.0; inodes = t.inodes.inodes; names = t.names; files = t.files.files } in
+    let s : Stored = record { user = t.user.0; inodes = t.inodes.inodes; names = t.names; files = t.files.files; limits = t.limits } in
     let fits : StoreFits s = rw (← c.self-inside.view_is) at c.self.invariant in
     let change = λ (old : List ℕ). put old c.args.offset c.args.new.now in
     let size : c.in_ok-size.size ≡ size_of (row_at (with_row s.files c.args.inode change) c.args.inode) = rw c.in_ok-size.ensures.ok at c.in_ok-size.ensures.size in
@@ -17,7 +17,7 @@ invariant_of-self-2 c =
 pub returns-clause-ok : goal.returns-clause-ok
 returns-clause-ok c =
     let t = c.self-inside.inside.0.0 in
-    let s : Stored = record { user = t.user.0; inodes = t.inodes.inodes; names = t.names; files = t.files.files } in
+    let s : Stored = record { user = t.user.0; inodes = t.inodes.inodes; names = t.names; files = t.files.files; limits = t.limits } in
     let change = λ (old : List ℕ). put old c.args.offset c.args.new.now in
     let size : c.in_ok-size.size ≡ size_of (row_at (with_row s.files c.args.inode change) c.args.inode) = rw c.in_ok-size.ensures.ok at c.in_ok-size.ensures.size in
     rw (← c.self.view_is, ← c.self-inside.view_is, c.resize.ensures, c.in_ok-size.ensures.ok)

@@ -1,7 +1,7 @@
 use Rattle.std.proofs.Common.{rules, ◌≡◌, ◌∷◌, ◌+◌, ◌<◌, [], length, ap, ◌∙◌, arith, get_or}
 use Rattle.std.proofs.lemmas.List.{get_or_default}
 use Rattle.std.specs.Vec.{vec_capacity}
-use Rattle.qx_paths.proofs.RowLemmas.{begun, begun-all, begun-free, begun-next, begun-none, length-begun, table-none}
+use Rattle.qx_paths.proofs.RowLemmas.{begun, begun-all, begun-fewer, begun-next, begun-none, length-begun, table-none}
 use Rattle.qx_paths.proofs.mounts.Mounts.boot.Goals as goal
 
 pub invariant_of-mounts : goal.invariant_of-mounts
@@ -14,8 +14,8 @@ loop-number-init c = rw (c.in_ok-with_capacity.ensures.items, c.user_count-place
 pub push-requires-clause-user : goal.push-requires-clause-user
 push-requires-clause-user c = rw (c.loop-number.invariant) (omega (arith, length-begun c.args.root c.args.config.now.users c.loop-number.number, ap length c.names-name-items.ensures, c.loop-number-test.true))
 
-pub push-requires-clause-free : goal.push-requires-clause-free
-push-requires-clause-free c = rw (c.loop-number.invariant) (begun-free c.args.root c.args.config.now.users c.in_ok-top.top.prefix c.loop-number.number)
+pub push-requires-clause-fewer : goal.push-requires-clause-fewer
+push-requires-clause-fewer c = rw (c.loop-number.invariant) (begun-fewer c.args.root c.args.config.now.users c.loop-number.number)
 
 pub loop-number-preserved : goal.loop-number-preserved
 loop-number-preserved c =

@@ -4,4 +4,4 @@ use Rattle.qx_resources.proofs.resources.Resources.boot.Goals as goal
 
 pub returns : goal.returns
 unfolding boot_part
-returns c = rw (c.in_ok-boot.ensures.boot) refl
+returns c = rw (c.in_ok-boot.ensures.boot, c.limits.ensures.limits) refl
