@@ -27,6 +27,7 @@ for bytes in 0 20 1024; do for kind in encode read; do calls 1000 $kind $bytes; 
 for length in 4096 61440; do for kind in seek write read; do for bytes in 1 512 4096; do script 1000 transfer $kind $length $bytes; done; done; done
 for length in 4096 32768 61440; do for writes in 0 1 2 3; do script 100 append $length $writes; done; done
 for kind in lookup make; do for at in '1 10' '1 1000' '8 10' '8 1000'; do script 300 $kind $at; done; done
+for kind in removed renamed; do for at in '10 1' '1000 1' '990 30'; do script 300 $kind $at; done; done; script 2 falling 1000
 for at in '10 0' '240 0' '1000 0' '1000 240' '1000 990'; do script 300 list $at; done; script 50 parts 1000 240
 for writes in 0 1 4 16; do script 100 whole $writes; done
 for at in '1 0' '16 0' '16 1' '16 100' '16 1000'; do script 200 beside $at; done

@@ -109,6 +109,13 @@ whole() {
 # An open for reading at a DEPTH, in a directory of ENTRIES names, and its close; or one that makes a file, which is removed.
 lookup() { alone; dirs "$1"; files "$dir" "$2"; echo 'show a'; name $(($2 / 2)); ask open "$dir/$name" r 000; last close 3; }
 make() { alone; dirs "$1"; files "$dir" "$2"; echo 'show a'; ask open "$dir/f" rwc 644; last close 3; last unlink "$dir/f"; }
+# ENTRIES files in all in DIRECTORIES directories; the last of these.
+spread() { for ((d = 0; d < $2; d++)); do dir=/a/${letters:d / 10:1}${letters:d % 10:1}; first mkdir "$dir" 777; files "$dir" $(($1 / $2)); done; }
+# A file is made in one of these directories, and removed; or one of the files goes to the top, and back.
+removed() { alone; spread "$@"; echo 'show a'; ask open "$dir/f" rwc 644; last close 3; last unlink "$dir/f"; }
+renamed() { alone; spread "$@"; echo 'show a'; name 0; last rename "$dir/$name" /a/f; last rename /a/f "$dir/$name"; }
+# In a new world in each round ENTRIES files are made, in the falling order of their names.
+falling() { alone; for ((f = $1 - 1; f >= 0; f--)); do name "$f"; first open "/a/$name" rwc 644; first close 3; done; }
 # A list of the names behind the first BEHIND of ENTRIES; or lists from each PART of them on.
 behind() { if [ "$1" = 0 ]; then ask list 3; else name $(($1 - 1)); ask list 3 "$name"; fi; }
 list() { alone; files /a "$1"; first open /a r 000; echo 'show a'; behind "$2"; }

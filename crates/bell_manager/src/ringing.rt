@@ -75,6 +75,18 @@ impl Connect<Bell, Shared, Bells> for Ringing {
         no_function()
     }
 
+    fn rename(
+        &self,
+        _state: &mut Bell,
+        _waits: &mut Shared,
+        _root: Result<u32, Errno>,
+        _from: &Rest<'_>,
+        _to: &Rest<'_>,
+        _moment: u64,
+    ) -> Result<Done, Errno> {
+        no_function()
+    }
+
     fn mknod(
         &self,
         _state: &mut Bell,

@@ -74,6 +74,18 @@ impl Connect<Kept, AllEvents, Told> for Null {
         no_function()
     }
 
+    fn rename(
+        &self,
+        _state: &mut Kept,
+        _waits: &mut AllEvents,
+        _root: Result<u32, Errno>,
+        _from: &Rest<'_>,
+        _to: &Rest<'_>,
+        _moment: u64,
+    ) -> Result<Done, Errno> {
+        no_function()
+    }
+
     fn mknod(
         &self,
         _state: &mut Kept,

@@ -9,8 +9,8 @@
 //! - `events.rt`: notifications, and the pulses that processes take
 //! - `steps.rt`: the steps that are tried: numbers of a linear congruential generator (`steps/dice.rt`), the steps that
 //!   they choose (`steps/choice.rt`, `steps/exits.rt`, and of a user of their own `steps/visits.rt` and
-//!   `steps/guests.rt`), and what these ask: `steps/requests.rt`, `steps/dups.rt`, `steps/pipes.rt`, `steps/events.rt`,
-//!   `steps/paths.rt`, `steps/raws.rt`, `steps/texts.rt`
+//!   `steps/guests.rt`), and what these ask: `steps/requests.rt`, `steps/renames.rt`, `steps/dups.rt`, `steps/pipes.rt`,
+//!   `steps/events.rt`, `steps/paths.rt`, `steps/raws.rt`, `steps/texts.rt`
 #![tactic(auto)]
 
 mod events;
@@ -72,13 +72,14 @@ pub enum Held<'a> {
     Pulse,
 }
 
-/// Where a request goes, over what, and what its path has behind the mount.
+/// Where a request goes, over what, and what its path has behind the mount, and its second path.
 #[derive(Clone, Copy)]
 struct Target<'a> {
     manager: Manager,
     over: Over,
     root: Option<u16>,
     rest: &'a [u8],
+    to: &'a [u8],
 }
 
 impl Plain {
@@ -168,8 +169,9 @@ impl Plain {
     }
 
     fn call(&mut self, thread: Thread, request: &Request) -> Result<Outcome, AllocError> {
-        let bytes = write(self.alloc, request, &[])?;
+        let bytes = write(self.alloc, request, &[], &[])?;
         let text = text_of(self.alloc, path_of(request))?;
+        let other = text_of(self.alloc, second_path_of(request))?;
         let Some(row) = self.row(thread) else {
             return Ok(Outcome::WrongState);
         };
@@ -183,7 +185,7 @@ impl Plain {
         let Some(calls) = row.calls.checked_add(1) else {
             return Ok(Outcome::Refused(Errno::EAGAIN));
         };
-        let target = match self.target(thread.proc, request, text.as_slice()) {
+        let target = match self.target(thread.proc, request, text.as_slice(), other.as_slice()) {
             Ok(target) => target,
             Err(error) => return Ok(Outcome::Refused(error)),
         };
@@ -196,7 +198,7 @@ impl Plain {
             root: target.root,
             prio,
             is_asked: false,
-            bytes: write(self.alloc, request, target.rest)?,
+            bytes: write(self.alloc, request, target.rest, target.to)?,
         };
         self.send(thread, sent, calls)?;
         Ok(Outcome::Sent)
@@ -226,12 +228,13 @@ impl Plain {
         Ok(())
     }
 
-    /// Where a request goes, and over what. The text is that of its path.
+    /// Where a request goes, and over what. The texts are those of its path and of its second path.
     fn target<'a>(
         &self,
         proc: Proc,
         request: &Request,
         text: &'a [u8],
+        other: &'a [u8],
     ) -> Result<Target<'a>, Errno> {
         match request {
             Request::OpenPath { path, .. } => {
@@ -242,6 +245,17 @@ impl Plain {
             Request::StatPath { path } | Request::Unlink { path } | Request::Mkdir { path, .. } => {
                 let (mount, rest) = self.resolve(proc.user, path, text)?;
                 Ok(at_mount(mount, Over::Side, rest))
+            }
+            Request::Rename { from, to } => {
+                let (mount, rest) = self.resolve(proc.user, from, text)?;
+                let (second, behind) = self.resolve(proc.user, to, other)?;
+                if mount.text != second.text {
+                    return Err(Errno::EXDEV);
+                }
+                Ok(Target {
+                    to: behind,
+                    ..at_mount(mount, Over::Side, rest)
+                })
             }
             Request::Dup { coid } => {
                 let manager = self.manager_of(proc, *coid)?;
@@ -589,6 +603,34 @@ impl Plain {
             .nth(place)
     }
 
+    /// How many paths of a user lead to something, but for those of mounts.
+    pub fn path_count(&self, user: User) -> usize {
+        self.files
+            .names
+            .iter()
+            .filter(|name| name.user == user)
+            .count()
+    }
+
+    /// One of these paths, by its place among them.
+    pub fn known_path(&self, user: User, place: usize) -> Result<Option<Bytes>, AllocError> {
+        let found = self
+            .files
+            .names
+            .iter()
+            .filter(|name| name.user == user)
+            .nth(place);
+        if let Some(name) = found
+            && let Some(mount) = self.mounts.with_root(user, name.root)
+        {
+            let mut path = Vec::from_slice(self.alloc, mount.text.as_slice())?;
+            path.push(b'/')?;
+            path.extend_from_slice(name.path.as_slice())?;
+            return Ok(Some(Bytes::from_vec(path)));
+        }
+        Ok(None)
+    }
+
     /// Whether a user can have no further block.
     pub fn is_full(&self, user: User) -> bool {
         self.files.is_full(user)
@@ -713,7 +755,16 @@ fn path_of(request: &Request) -> &[u8] {
         Request::OpenPath { path, .. }
         | Request::StatPath { path }
         | Request::Unlink { path }
-        | Request::Mkdir { path, .. } => path.as_slice(),
+        | Request::Mkdir { path, .. }
+        | Request::Rename { from: path, .. } => path.as_slice(),
+        _ => &[],
+    }
+}
+
+/// The second path that a request names, if it names two.
+fn second_path_of(request: &Request) -> &[u8] {
+    match request {
+        Request::Rename { to, .. } => to.as_slice(),
         _ => &[],
     }
 }
@@ -724,6 +775,7 @@ fn at_mount<'a>(mount: &Mount, over: Over, rest: &'a [u8]) -> Target<'a> {
         over,
         root: Some(mount.root),
         rest,
+        to: &[],
     }
 }
 
@@ -733,6 +785,7 @@ fn at_manager<'a>(manager: Manager, over: Over) -> Target<'a> {
         over,
         root: None,
         rest: &[],
+        to: &[],
     }
 }
 

@@ -42,7 +42,7 @@ impl Plain {
         }
     }
 
-    /// All managers have functions for all messages, but those of pipes and devices none for mknod.
+    /// All managers have functions for all messages, but those of pipes and devices none for mknod and rename.
     fn done(
         &mut self,
         thread: Thread,
@@ -51,7 +51,9 @@ impl Plain {
         kind: Kind,
     ) -> Result<Option<Reply>, Fault> {
         match kind {
-            Kind::Mknod if has_waiters(sent.manager) => Err(Fault::Refused(Errno::ENOSYS)),
+            Kind::Mknod | Kind::Rename if has_waiters(sent.manager) => {
+                Err(Fault::Refused(Errno::ENOSYS))
+            }
             Kind::Read | Kind::Write if has_waiters(sent.manager) => {
                 self.in_pipe(thread, sent, moment, kind)?;
                 Ok(None)
@@ -71,7 +73,9 @@ impl Plain {
         match kind {
             Kind::Open => self.open(proc, sent, moment),
             Kind::Dup => self.dup(proc, sent),
-            Kind::Stat | Kind::Unlink | Kind::Mknod => self.at_path(proc, sent, moment, kind),
+            Kind::Stat | Kind::Unlink | Kind::Mknod | Kind::Rename => {
+                self.at_path(proc, sent, moment, kind)
+            }
             _ => self.over_block(proc, sent, moment, kind),
         }
     }
@@ -147,16 +151,12 @@ impl Plain {
             return Err(Fault::Refused(Errno::EINVAL));
         };
         let bytes = sent.bytes.as_slice();
-        let rest = if matches!(kind, Kind::Mknod) {
-            REST
-        } else {
-            BODY
-        };
+        let (path, to) = paths_in(kind, bytes);
         let place = Place {
             user: proc.user,
             manager: sent.manager,
             root,
-            path: from_place(bytes, rest),
+            path,
             moment,
         };
         match kind {
@@ -165,6 +165,7 @@ impl Plain {
                 return Ok((0, Vec::from_slice(self.alloc, &status)?));
             }
             Kind::Unlink => self.files.unlink(&place)?,
+            Kind::Rename => self.files.rename(&place, to)?,
             _ => self.files.mkdir(&place, number_at(bytes, BODY + 2))?,
         }
         Ok((0, Vec::new(self.alloc)))
@@ -227,6 +228,19 @@ impl Plain {
             Some(row) if row.manager == manager => row.block.ok_or(Errno::EBADF),
             _ => Err(Errno::EBADF),
         }
+    }
+}
+
+/// What a message to a path has of it behind the mount, and a rename of its second path.
+fn paths_in(kind: Kind, bytes: &[u8]) -> (&[u8], &[u8]) {
+    match kind {
+        Kind::Mknod => (from_place(bytes, REST), &[]),
+        Kind::Rename => {
+            let length = usize::from(number_at(bytes, BODY));
+            let both = from_place(bytes, BODY + 2);
+            (both.get(..length).unwrap_or(both), from_place(both, length))
+        }
+        _ => (from_place(bytes, BODY), &[]),
     }
 }
 

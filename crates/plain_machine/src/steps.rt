@@ -9,6 +9,7 @@ mod guests;
 mod paths;
 mod pipes;
 mod raws;
+mod renames;
 mod requests;
 mod texts;
 mod visits;

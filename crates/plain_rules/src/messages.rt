@@ -10,6 +10,7 @@ pub enum Kind {
     Stat,
     Unlink,
     Mknod,
+    Rename,
     Read,
     Write,
     Close,
@@ -61,6 +62,7 @@ fn kind_of(number: u16, subtype: u16) -> Option<Kind> {
         (256, 2) => Some(Kind::Stat),
         (256, 3) => Some(Kind::Unlink),
         (256, 4) => Some(Kind::Mknod),
+        (256, 5) => Some(Kind::Rename),
         (257, 0) => Some(Kind::Read),
         (258, 0) => Some(Kind::Write),
         (259, 0) => Some(Kind::Close),
@@ -81,6 +83,7 @@ fn is_formed(kind: Kind, body: &[u8]) -> bool {
         Kind::Open => is_open(body),
         Kind::Stat | Kind::Unlink => is_rest(body),
         Kind::Mknod => is_mknod(body),
+        Kind::Rename => is_rename(body),
         Kind::Read => is_count(body),
         Kind::Write => body.len() <= 4_096,
         Kind::Close | Kind::Fstat => body.is_empty(),
@@ -106,6 +109,20 @@ fn is_open(body: &[u8]) -> bool {
 fn is_mknod(body: &[u8]) -> bool {
     match body {
         [2, 0, low, high, rest @ ..] => is_mode(&[*low, *high]) && is_rest(rest),
+        _ => false,
+    }
+}
+
+/// How many bytes the first of two rests has, and both.
+fn is_rename(body: &[u8]) -> bool {
+    match body {
+        [low, high, rests @ ..] => {
+            let length = usize::from(u16::from_le_bytes([*low, *high]));
+            match (rests.get(..length), rests.get(length..)) {
+                (Some(from), Some(to)) => is_rest(from) && is_rest(to),
+                _ => false,
+            }
+        }
         _ => false,
     }
 }
@@ -181,8 +198,13 @@ fn is_component(length: usize, dots: usize) -> bool {
     0 < length && length <= 64 && (length > 2 || dots < length)
 }
 
-/// The message of a request, whatever its fields, and of what its path has behind the mount.
-pub fn write(alloc: Global, request: &Request, rest: &[u8]) -> Result<Bytes, AllocError> {
+/// The message of a request, whatever its fields, of what its path has behind the mount, and of that of its second path.
+pub fn write(
+    alloc: Global,
+    request: &Request,
+    rest: &[u8],
+    to: &[u8],
+) -> Result<Bytes, AllocError> {
     match request {
         Request::OpenPath { flags, mode, .. } => {
             message(alloc, 256, 1, &two_words(flags.0, *mode), rest)
@@ -190,6 +212,12 @@ pub fn write(alloc: Global, request: &Request, rest: &[u8]) -> Result<Bytes, All
         Request::StatPath { .. } => message(alloc, 256, 2, &[], rest),
         Request::Unlink { .. } => message(alloc, 256, 3, &[], rest),
         Request::Mkdir { mode, .. } => message(alloc, 256, 4, &two_words(2, *mode), rest),
+        Request::Rename { .. } => {
+            let length = u16::try_from(rest.len()).unwrap_or(u16::MAX);
+            let mut fields = Vec::from_slice(alloc, &length.to_le_bytes())?;
+            fields.extend_from_slice(rest)?;
+            message(alloc, 256, 5, fields.as_slice(), to)
+        }
         Request::Read { count, .. } => message(alloc, 257, 0, &count.to_le_bytes(), &[]),
         Request::Write { bytes, .. } => message(alloc, 258, 0, bytes.as_slice(), &[]),
         Request::Close { .. } => message(alloc, 259, 0, &[], &[]),

@@ -84,6 +84,13 @@ impl Mounts {
             .nth(place)
     }
 
+    /// The mount of a user that has an inode for its root.
+    pub fn with_root(&self, user: User, root: u16) -> Option<&Mount> {
+        self.rows
+            .iter()
+            .find(|mount| mount.user == user && mount.root == root)
+    }
+
     /// How many mounts of a manager a user has beside the top.
     pub fn count(&self, user: User, manager: Manager) -> usize {
         self.rows

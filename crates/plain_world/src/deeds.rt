@@ -59,6 +59,7 @@ fn call_deed(request: &Request) -> Deed {
         Request::StatPath { .. } => ("call", "stat"),
         Request::Unlink { .. } => ("call", "unlink"),
         Request::Mkdir { .. } => ("call", "mkdir"),
+        Request::Rename { .. } => ("call", "rename"),
         Request::Read { .. } => ("call", "read"),
         Request::Write { .. } => ("call", "write"),
         Request::Close { .. } => ("call", "close"),
@@ -87,6 +88,7 @@ fn kind_word(kind: Kind) -> &'static str {
         Kind::Stat => "stat",
         Kind::Unlink => "unlink",
         Kind::Mknod => "mknod",
+        Kind::Rename => "rename",
         Kind::Read => "read",
         Kind::Write => "write",
         Kind::Close => "close",
@@ -271,7 +273,7 @@ pub fn due_deed(word: &'static str, count: usize) -> Option<Deed> {
 pub fn leaving_deed(word: &'static str, served: Option<Served>) -> Deed {
     let word = match served.map(|served| served.kind) {
         Some(Kind::Open | Kind::Dup) => "new connection",
-        Some(Kind::Stat | Kind::Unlink | Kind::Mknod) => "side connection",
+        Some(Kind::Stat | Kind::Unlink | Kind::Mknod | Kind::Rename) => "side connection",
         Some(kind) => kind_word(kind),
         None => word,
     };
@@ -292,7 +294,7 @@ fn pipe_word(kind: Kind) -> &'static str {
         Kind::List => "pipe list",
         Kind::Chmod => "pipe chmod",
         Kind::Dup => "pipe dup",
-        Kind::Mknod | Kind::Notify { .. } => "no function",
+        Kind::Mknod | Kind::Rename | Kind::Notify { .. } => "no function",
     }
 }
 
@@ -310,7 +312,7 @@ fn device_word(kind: Kind) -> &'static str {
         Kind::List => "device list",
         Kind::Chmod => "device chmod",
         Kind::Dup => "device dup",
-        Kind::Mknod | Kind::Notify { .. } => "no function",
+        Kind::Mknod | Kind::Rename | Kind::Notify { .. } => "no function",
     }
 }
 
@@ -394,10 +396,12 @@ fn place_deed(sent: &Sent) -> Option<Deed> {
     }
 }
 
-/// An open and a mknod have 12 bytes before the rest, a stat and an unlink the header's 8.
+/// An open and a mknod have 12 bytes before the rest, a stat and an unlink the header's 8, behind which a rename tells how
+/// long its first rest is.
 fn has_rest(sent: &Sent) -> bool {
     match read(sent.bytes.as_slice()) {
         Reading::Known(Kind::Open | Kind::Mknod) => sent.bytes.len() > 12,
+        Reading::Known(Kind::Rename) => number_at(sent.bytes.as_slice(), 8) > 0,
         _ => sent.bytes.len() > 8,
     }
 }

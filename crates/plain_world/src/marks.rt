@@ -5,7 +5,6 @@ use crate::deeds::{
 };
 use crate::endings::{counted_deed, endings, started_deeds};
 use crate::tally::Tally;
-use anyhow::bail;
 use plain_machine::{Plain, State};
 use plain_rules::messages::Kind;
 use qx_types::{Manager, Outcome, Proc, Step, Thread};
@@ -61,17 +60,15 @@ impl Before {
         })
     }
 
-    /// Marks what the step came to. What is none of all that may come is an error.
+    /// Marks what the step came to.
     pub fn mark(
         &self,
         plain: &Plain,
         tally: &mut Tally,
         step: &Step,
         outcome: &Outcome,
-    ) -> anyhow::Result<()> {
-        if !tally.mark(outcome, self.done, plain.waiting(Manager::Ram)) {
-            bail!("{outcome:?}");
-        }
+    ) -> Result<(), AllocError> {
+        tally.mark(outcome, self.done, plain.waiting(Manager::Ram))?;
         if let Some(served) = self.message {
             mark_answer(tally, answer_deed(plain, served))?;
         }
@@ -82,15 +79,20 @@ impl Before {
     }
 
     /// Marks how those were answered who waited, by a disconnect pulse too, and what answered them by cleaning alone.
-    fn mark_waited(&self, plain: &Plain, tally: &mut Tally, after: Counts) -> anyhow::Result<()> {
+    fn mark_waited(
+        &self,
+        plain: &Plain,
+        tally: &mut Tally,
+        after: Counts,
+    ) -> Result<(), AllocError> {
         for thread in self.waiting.iter() {
             if let Some((kind, word)) = waited_deed(plain, *thread) {
-                mark_answer(tally, Some((kind, word)))?;
+                tally.mark_answer((kind, word))?;
                 if self.word == "disconnect" {
-                    mark_ending(tally, ("a disconnect gives", word))?;
+                    tally.mark_ending(("a disconnect gives", word))?;
                 }
                 if after.gone < self.counts.gone && self.is_by_cleaning(plain, word) {
-                    mark_ending(tally, ("cleaning serves", self.word))?;
+                    tally.mark_ending(("cleaning serves", self.word))?;
                 }
             }
         }
@@ -110,28 +112,28 @@ impl Before {
     }
 
     /// Marks what made events due and server connections leave, what cleaned a pipe, and what went with an ended process.
-    fn mark_counts(&self, tally: &mut Tally, after: Counts) -> anyhow::Result<()> {
+    fn mark_counts(&self, tally: &mut Tally, after: Counts) -> Result<(), AllocError> {
         let before = self.counts;
         mark_answer(
             tally,
             due_deed(self.word, after.pulses.saturating_sub(before.pulses)),
         )?;
         if before.leaving < after.leaving {
-            mark_answer(tally, Some(leaving_deed(self.word, self.message)))?;
+            tally.mark_answer(leaving_deed(self.word, self.message))?;
         }
         if after.gone < before.gone {
-            mark_ending(tally, ("cleans", self.word))?;
+            tally.mark_ending(("cleans", self.word))?;
         } else if self.message.is_some_and(may_clean) {
-            mark_ending(tally, ("cleans not", self.word))?;
+            tally.mark_ending(("cleans not", self.word))?;
         }
         if after.ended < before.ended {
-            mark_ending(tally, ("frees a process", self.word))?;
+            tally.mark_ending(("frees a process", self.word))?;
         }
         if after.inodes < before.inodes && self.word == "disconnect" {
-            mark_ending(tally, ("frees an inode", self.word))?;
+            tally.mark_ending(("frees an inode", self.word))?;
         }
         if after.unheard < before.unheard && self.message.is_some() {
-            mark_ending(tally, ("due", "nobody hears"))?;
+            tally.mark_ending(("due", "nobody hears"))?;
         }
         Ok(())
     }
@@ -143,12 +145,12 @@ impl Before {
         tally: &mut Tally,
         step: &Step,
         outcome: &Outcome,
-    ) -> anyhow::Result<()> {
+    ) -> Result<(), AllocError> {
         for ending in self.endings.iter() {
-            mark_ending(tally, *ending)?;
+            tally.mark_ending(*ending)?;
         }
         if let Some(counted) = counted_deed(plain, step, self.message, outcome) {
-            mark_ending(tally, counted)?;
+            tally.mark_ending(counted)?;
         }
         match (step, outcome) {
             (Step::Spawn { user, .. }, Outcome::Spawned(num)) => {
@@ -157,11 +159,11 @@ impl Before {
                     num: *num,
                 };
                 for started in started_deeds(self.alloc, plain, proc)? {
-                    mark_ending(tally, started)?;
+                    tally.mark_ending(started)?;
                 }
             }
             (Step::Exit { proc }, Outcome::Done) if !plain.has_ended(*proc) => {
-                mark_ending(tally, ("frees a process", self.word))?;
+                tally.mark_ending(("frees a process", self.word))?;
             }
             _ => {}
         }
@@ -187,18 +189,9 @@ fn waiting_threads(alloc: Global, plain: &Plain) -> Result<Vec<Thread>, AllocErr
     Ok(waiting)
 }
 
-fn mark_answer(tally: &mut Tally, answer: Option<Deed>) -> anyhow::Result<()> {
-    if let Some(answer) = answer
-        && !tally.mark_answer(answer)
-    {
-        bail!("{answer:?}");
+fn mark_answer(tally: &mut Tally, answer: Option<Deed>) -> Result<(), AllocError> {
+    match answer {
+        Some(answer) => tally.mark_answer(answer),
+        None => Ok(()),
     }
-    Ok(())
-}
-
-fn mark_ending(tally: &mut Tally, ending: Deed) -> anyhow::Result<()> {
-    if !tally.mark_ending(ending) {
-        bail!("{ending:?}");
-    }
-    Ok(())
 }

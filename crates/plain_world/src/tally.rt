@@ -2,9 +2,10 @@
 
 use crate::deeds::Deed;
 use qx_types::{Errno, Item, Outcome};
+use std::alloc::{AllocError, Global};
 
 /// Each outcome that the steps have to come to, and its error. None other may come.
-const OUTCOMES: [(&str, &str); 48] = [
+const OUTCOMES: [(&str, &str); 49] = [
     ("spawned", ""),
     ("refused", "EINVAL"),
     ("refused", "EPERM"),
@@ -16,6 +17,7 @@ const OUTCOMES: [(&str, &str); 48] = [
     ("refused", "EBADF"),
     ("refused", "EMFILE"),
     ("refused", "EAGAIN"),
+    ("refused", "EXDEV"),
     ("done", ""),
     ("sent", ""),
     ("reply", ""),
@@ -56,11 +58,12 @@ const OUTCOMES: [(&str, &str); 48] = [
 ];
 
 /// Each deed that has to be done. None other may be.
-const DEEDS: [(&str, &str); 57] = [
+const DEEDS: [(&str, &str); 59] = [
     ("call", "open"),
     ("call", "stat"),
     ("call", "unlink"),
     ("call", "mkdir"),
+    ("call", "rename"),
     ("call", "read"),
     ("call", "write"),
     ("call", "close"),
@@ -78,6 +81,7 @@ const DEEDS: [(&str, &str); 57] = [
     ("raw", "stat"),
     ("raw", "unlink"),
     ("raw", "mknod"),
+    ("raw", "rename"),
     ("raw", "read"),
     ("raw", "write"),
     ("raw", "close"),
@@ -118,7 +122,7 @@ const DEEDS: [(&str, &str); 57] = [
 
 /// Each answer that has to come, by the manager and the kind of its message, and to those who waited; what makes one event
 /// due or several; and what makes a server connection leave. None other may.
-const ANSWERS: [(&str, &str); 195] = [
+const ANSWERS: [(&str, &str); 206] = [
     ("no block", "EBADF"),
     ("open", "done"),
     ("open", "EINVAL"),
@@ -128,6 +132,7 @@ const ANSWERS: [(&str, &str); 195] = [
     ("open", "EEXIST"),
     ("open", "EISDIR"),
     ("open", "ENFILE"),
+    ("open", "ENOSPC"),
     ("stat", "of a file"),
     ("stat", "of a directory"),
     ("stat", "EINVAL"),
@@ -147,6 +152,15 @@ const ANSWERS: [(&str, &str); 195] = [
     ("mknod", "ENOENT"),
     ("mknod", "ENOTDIR"),
     ("mknod", "EACCES"),
+    ("mknod", "ENOSPC"),
+    ("rename", "done"),
+    ("rename", "EINVAL"),
+    ("rename", "EBUSY"),
+    ("rename", "ENOENT"),
+    ("rename", "ENOTDIR"),
+    ("rename", "EACCES"),
+    ("rename", "EISDIR"),
+    ("rename", "ENOTEMPTY"),
     ("read", "something"),
     ("read", "nothing"),
     ("read", "EBADF"),
@@ -190,6 +204,7 @@ const ANSWERS: [(&str, &str); 195] = [
     ("pipe open", "EEXIST"),
     ("pipe open", "EISDIR"),
     ("pipe open", "ENFILE"),
+    ("pipe open", "ENOSPC"),
     ("pipe stat", "of a pipe"),
     ("pipe stat", "of a directory"),
     ("pipe stat", "EINVAL"),
@@ -377,62 +392,70 @@ const ENDINGS: [(&str, &str); 56] = [
     ("started", "past an ended process"),
 ];
 
-/// Which of the outcomes, deeds, answers and endings came, and how long the line was.
+/// Which of the outcomes, deeds, answers and endings came, what came that is none of these, and how long the line was.
 #[derive(Drop)]
 pub struct Tally {
-    outcomes: [bool; 48],
-    deeds: [bool; 57],
-    answers: [bool; 195],
+    outcomes: [bool; 49],
+    deeds: [bool; 59],
+    answers: [bool; 206],
     endings: [bool; 56],
+    others: Vec<Deed>,
     longest: usize,
 }
 
 impl Tally {
-    pub fn new() -> Tally {
+    pub fn new(alloc: Global) -> Tally {
         Tally {
-            outcomes: [false; 48],
-            deeds: [false; 57],
-            answers: [false; 195],
+            outcomes: [false; 49],
+            deeds: [false; 59],
+            answers: [false; 206],
             endings: [false; 56],
+            others: Vec::new(alloc),
             longest: 0,
         }
     }
 
-    /// Marks an outcome, after which so many items wait, and a deed that it may have done. Whether both are of those that
-    /// may come.
-    pub fn mark(&mut self, outcome: &Outcome, deed: Option<Deed>, waiting: usize) -> bool {
+    /// Marks an outcome, after which so many items wait, and a deed that it may have done.
+    pub fn mark(
+        &mut self,
+        outcome: &Outcome,
+        deed: Option<Deed>,
+        waiting: usize,
+    ) -> Result<(), AllocError> {
         self.longest = self.longest.max(waiting);
         let words = (outcome_word(outcome), error_word(outcome));
-        if !mark_row(&OUTCOMES, &mut self.outcomes, words) {
-            return false;
-        }
-        match (outcome, deed) {
-            (Outcome::Sent | Outcome::Done | Outcome::Handled, Some(deed)) => {
-                mark_row(&DEEDS, &mut self.deeds, deed)
-            }
-            (Outcome::Refused(Errno::EAGAIN), Some((kind, _))) => {
-                mark_row(&DEEDS, &mut self.deeds, (kind, "no server connection"))
-            }
-            _ => true,
-        }
+        mark_row(&OUTCOMES, &mut self.outcomes, &mut self.others, words)?;
+        let deed = match (outcome, deed) {
+            (Outcome::Sent | Outcome::Done | Outcome::Handled, Some(deed)) => deed,
+            (Outcome::Refused(Errno::EAGAIN), Some((kind, _))) => (kind, "no server connection"),
+            _ => return Ok(()),
+        };
+        mark_row(&DEEDS, &mut self.deeds, &mut self.others, deed)
     }
 
-    /// Marks an answer. Whether it is of those that may come.
-    pub fn mark_answer(&mut self, answer: Deed) -> bool {
-        mark_row(&ANSWERS, &mut self.answers, answer)
+    /// Marks an answer.
+    pub fn mark_answer(&mut self, answer: Deed) -> Result<(), AllocError> {
+        mark_row(&ANSWERS, &mut self.answers, &mut self.others, answer)
     }
 
-    /// Marks something of an exit. Whether it is of those that may come.
-    pub fn mark_ending(&mut self, ending: Deed) -> bool {
-        mark_row(&ENDINGS, &mut self.endings, ending)
+    /// Marks something of an exit.
+    pub fn mark_ending(&mut self, ending: Deed) -> Result<(), AllocError> {
+        mark_row(&ENDINGS, &mut self.endings, &mut self.others, ending)
     }
 
-    /// An outcome, a deed, an answer or something of an exit that did not come.
-    pub fn missing(&self) -> Option<Deed> {
-        missing_row(&OUTCOMES, &self.outcomes)
-            .or_else(|| missing_row(&DEEDS, &self.deeds))
-            .or_else(|| missing_row(&ANSWERS, &self.answers))
-            .or_else(|| missing_row(&ENDINGS, &self.endings))
+    /// What came and is none of all that may come.
+    pub fn others(&self) -> &[Deed] {
+        self.others.as_slice()
+    }
+
+    /// The outcomes, deeds, answers and things of an exit that did not come.
+    pub fn missing(&self, alloc: Global) -> Result<Vec<Deed>, AllocError> {
+        let mut missing: Vec<Deed> = Vec::new(alloc);
+        push_missing(&mut missing, &OUTCOMES, &self.outcomes)?;
+        push_missing(&mut missing, &DEEDS, &self.deeds)?;
+        push_missing(&mut missing, &ANSWERS, &self.answers)?;
+        push_missing(&mut missing, &ENDINGS, &self.endings)?;
+        Ok(missing)
     }
 
     /// The most items that the line held.
@@ -441,25 +464,37 @@ impl Tally {
     }
 }
 
-/// Marks the row of these words, if there is one.
-fn mark_row(rows: &[Deed], marks: &mut [bool], words: Deed) -> bool {
+/// Marks the row of these words, or keeps the words, once, where there is none.
+fn mark_row(
+    rows: &[Deed],
+    marks: &mut [bool],
+    others: &mut Vec<Deed>,
+    words: Deed,
+) -> Result<(), AllocError> {
     for (row, mark) in rows.iter().zip(marks.iter_mut()) {
-        if row.0 == words.0 && row.1 == words.1 {
+        if is_same(row, words) {
             *mark = true;
-            return true;
+            return Ok(());
         }
     }
-    false
+    if !others.iter().any(|other| is_same(other, words)) {
+        others.push(words)?;
+    }
+    Ok(())
 }
 
-/// The first row without a mark.
-fn missing_row(rows: &[Deed], marks: &[bool]) -> Option<Deed> {
+fn is_same(row: &Deed, words: Deed) -> bool {
+    row.0 == words.0 && row.1 == words.1
+}
+
+/// Adds the rows without a mark.
+fn push_missing(missing: &mut Vec<Deed>, rows: &[Deed], marks: &[bool]) -> Result<(), AllocError> {
     for (row, mark) in rows.iter().zip(marks.iter()) {
         if !*mark {
-            return Some(*row);
+            missing.push(*row)?;
         }
     }
-    None
+    Ok(())
 }
 
 fn outcome_word(outcome: &Outcome) -> &'static str {

@@ -28,7 +28,7 @@ pub fn next_request(
     last: Coid,
 ) -> Result<Request, AllocError> {
     let coid = next_connection(dice, last);
-    Ok(match dice.below(32) {
+    Ok(match dice.below(33) {
         0..=8 => next_open(alloc, dice, user)?,
         9 => Request::StatPath {
             path: next_path(alloc, dice, user, &FILES)?,
@@ -43,15 +43,16 @@ pub fn next_request(
             path: next_path(alloc, dice, user, &DIRECTORIES)?,
             mode: next_mode(dice),
         },
-        13..=16 => Request::Read {
+        13 => next_rename(alloc, dice, user)?,
+        14..=17 => Request::Read {
             coid,
             count: next_count(dice),
         },
-        17..=20 => Request::Write {
+        18..=21 => Request::Write {
             coid,
             bytes: next_bytes(alloc, dice)?,
         },
-        21..=23 => Request::Close { coid },
+        22..=24 => Request::Close { coid },
         _ => next_other(alloc, dice, coid)?,
     })
 }
@@ -138,6 +139,20 @@ fn next_open(alloc: Global, dice: &mut Dice, user: User) -> Result<Request, Allo
         path: next_path(alloc, dice, user, words)?,
         flags,
         mode: next_mode(dice),
+    })
+}
+
+/// A rename of a file or a directory, now and then of one in place of the other.
+fn next_rename(alloc: Global, dice: &mut Dice, user: User) -> Result<Request, AllocError> {
+    let (from, to) = match dice.below(8) {
+        0 => (&DIRECTORIES, &FILES),
+        1 => (&FILES, &DIRECTORIES),
+        2 | 3 => (&DIRECTORIES, &DIRECTORIES),
+        _ => (&FILES, &FILES),
+    };
+    Ok(Request::Rename {
+        from: next_path(alloc, dice, user, from)?,
+        to: next_path(alloc, dice, user, to)?,
     })
 }
 

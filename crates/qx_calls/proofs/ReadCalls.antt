@@ -5,9 +5,9 @@ use Rattle.std.specs.List.{list_all}
 use Rattle.qx_types.specs.Configuration.{Configuration, IsConfiguration}
 use Rattle.qx_types.specs.declared.names.Thread.{Thread}
 use Rattle.qx_types.specs.declared.request.Request.{Request}
-use Rattle.qx_types.specs.declared.request.Request.TheVariants.{OpenPath, StatPath, Unlink, Mkdir, Read, Write, Close, Dup, Seek, Fstat, List as ListNames, Chmod, Notify, Notify64, Raw}
+use Rattle.qx_types.specs.declared.request.Request.TheVariants.{OpenPath, StatPath, Unlink, Mkdir, Rename, Read, Write, Close, Dup, Seek, Fstat, List as ListNames, Chmod, Notify, Notify64, Raw}
 use Rattle.qx_calls.specs.inner.Calls.{CanSayCall}
-use Rattle.qx_calls.specs.Calls.{call_in_line, call_over_of, call_said, chmod_line, close_line, dup_line, fstat_line, lines_at_path, lines_over, list_line, mkdir_line, name_given, notify_64_line, notify_line, open_line, raw_line, read_line, seek_line, stat_line, unlink_line, write_line}
+use Rattle.qx_calls.specs.Calls.{call_in_line, call_over_of, call_said, chmod_line, close_line, dup_line, fstat_line, lines_at_path, lines_over, list_line, mkdir_line, name_given, notify_64_line, notify_line, open_line, raw_line, read_line, rename_line, seek_line, stat_line, unlink_line, write_line}
 use Rattle.qx_calls.specs.Forms.{CanBeSaid, CanBeWords, at_most, words_for}
 use Rattle.qx_words.specs.Kinds.{AHexByte, APath, SomeBytes, CanName, is_word}
 use Rattle.qx_calls.proofs.ReadForms.{Makes, line_again, one_of_within}
@@ -20,6 +20,7 @@ call_again config thread (OpenPath flags mode path) valid can = line_again open_
 call_again config thread (StatPath path) valid can = line_again stat_line config (thread, (path, tt)) valid can
 call_again config thread (Unlink path) valid can = line_again unlink_line config (thread, (path, tt)) valid can
 call_again config thread (Mkdir mode path) valid can = line_again mkdir_line config (thread, (path, (mode, tt))) valid can
+call_again config thread (Rename from to) valid can = line_again rename_line config (thread, (from, (to, tt))) valid can
 call_again config thread (Read coid count) valid can = line_again read_line config (thread, (coid.0, (count, tt))) valid can
 call_again config thread (Write coid bytes) valid can = line_again write_line config (thread, (coid.0, (bytes, tt))) valid can
 call_again config thread (Close coid) valid can = line_again close_line config (thread, (coid.0, tt)) valid can
@@ -53,6 +54,7 @@ first and rest = (first, rest)
 at_path_make : (users : List (List ℕ)) → Makes users (CanSayCall users) lines_at_path
 at_path_make users =
     (λ values can. (can.0, can))
+    and (λ values can. (can.0, can))
     and (λ values can. (can.0, can))
     and (λ values can. (can.0, can))
     and (λ values can. (can.0, can))

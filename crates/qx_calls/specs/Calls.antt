@@ -4,7 +4,7 @@ use Rattle.qx_types.specs.Configuration.{Configuration}
 use Rattle.qx_types.specs.declared.names.Coid.{Coid}
 use Rattle.qx_types.specs.declared.names.Thread.{Thread}
 use Rattle.qx_types.specs.declared.request.Request.{Request}
-use Rattle.qx_types.specs.declared.request.Request.TheVariants.{OpenPath, StatPath, Unlink, Mkdir, Read, Write, Close, Dup, Seek, Fstat, List as ListNames, Chmod, Notify, Notify64, Raw}
+use Rattle.qx_types.specs.declared.request.Request.TheVariants.{OpenPath, StatPath, Unlink, Mkdir, Rename, Read, Write, Close, Dup, Seek, Fstat, List as ListNames, Chmod, Notify, Notify64, Raw}
 use Rattle.qx_calls.specs.Forms.{◌then◌, at_most, end, Form, Line, Maker, Saying, by, line_text, made_into, read_one_of}
 use Rattle.qx_words.specs.Kinds.{AThread, AByte, ATwoByteNumber, AFourByteNumber, AnEightByteNumber, AnOffset, APath, SomeFlags, AMode, SomeBytes, AHexByte, AWhence, AnAction, SomeConditions}
 
@@ -32,6 +32,9 @@ unlink_line = call_line (codes "unlink") (APath then end) Unlink
 
 abbrev pub mkdir_line : Line (Thread × Request)
 mkdir_line = call_line (codes "mkdir") (APath then AMode then end) (λ path mode. Mkdir mode path)
+
+abbrev pub rename_line : Line (Thread × Request)
+rename_line = call_line (codes "rename") (APath then APath then end) Rename
 
 abbrev pub read_line : Line (Thread × Request)
 read_line = line_over (codes "read") (AFourByteNumber then end) Read
@@ -72,7 +75,7 @@ abbrev pub raw_line : Line (Thread × Request)
 raw_line = line_over (codes "raw") (SomeBytes then end) Raw
 
 abbrev pub lines_at_path : List (Line (Thread × Request))
-lines_at_path = open_line ∷ stat_line ∷ unlink_line ∷ mkdir_line ∷ []
+lines_at_path = open_line ∷ stat_line ∷ unlink_line ∷ mkdir_line ∷ rename_line ∷ []
 
 abbrev pub lines_over : List (Line (Thread × Request))
 lines_over =
@@ -97,6 +100,7 @@ call_said thread (OpenPath flags mode path) = by open_line (thread, (path, (flag
 call_said thread (StatPath path) = by stat_line (thread, (path, tt))
 call_said thread (Unlink path) = by unlink_line (thread, (path, tt))
 call_said thread (Mkdir mode path) = by mkdir_line (thread, (path, (mode, tt)))
+call_said thread (Rename from to) = by rename_line (thread, (from, (to, tt)))
 call_said thread (Read coid count) = by read_line (thread, (coid.0, (count, tt)))
 call_said thread (Write coid bytes) = by write_line (thread, (coid.0, (bytes, tt)))
 call_said thread (Close coid) = by close_line (thread, (coid.0, tt))

@@ -1,7 +1,7 @@
 //! What the lines that call ask for.
 
 ghost use Rattle.std.specs.Prelude.{◌≡◌, ◌∷◌, [], IfOk, if◌then◌else◌, map};
-ghost use Rattle.qx_calls.specs.Calls.{call_in_line, call_over_of, chmod_line, close_line, connection_numbered, dup_line, fill_line, fstat_line, list_line, mkdir_line, notify_64_line, notify_line, open_line, raw_line, read_line, seek_line, stat_line, unlink_line, write_line};
+ghost use Rattle.qx_calls.specs.Calls.{call_in_line, call_over_of, chmod_line, close_line, connection_numbered, dup_line, fill_line, fstat_line, list_line, mkdir_line, notify_64_line, notify_line, open_line, raw_line, read_line, rename_line, seek_line, stat_line, unlink_line, write_line};
 ghost use Rattle.qx_calls.specs.Forms.{◌then◌, end, read_form, read_words};
 ghost use Rattle.qx_words.specs.Kinds.{AThread, AByte, APath, SomeBytes};
 
@@ -128,6 +128,21 @@ fn mkdir(alloc: Global, users: &Users, words: &[&[u8]]) -> Result<Option<Call>, 
     };
     let path = Bytes::from_slice(alloc, *path)?;
     Ok(Some((thread, Request::Mkdir { path, mode })))
+}
+
+/// `rename THREAD PATH PATH`
+fn rename(alloc: Global, users: &Users, words: &[&[u8]]) -> Result<Option<Call>, NoMemory>
+    ensures call { IfOk result (λ call. call ≡ read_form rename_line users.now (map (λ word. word.now) words.now)) }
+{
+    let [thread_word, from, to] = words else {
+        return Ok(None);
+    };
+    let Some(thread) = thread(users, *thread_word) else {
+        return Ok(None);
+    };
+    let from = Bytes::from_slice(alloc, *from)?;
+    let to = Bytes::from_slice(alloc, *to)?;
+    Ok(Some((thread, Request::Rename { from, to })))
 }
 
 /// `read THREAD CONNECTION COUNT`
@@ -343,6 +358,8 @@ pub fn call(
         unlink(alloc, users, words)
     } else if name == b"mkdir".as_slice() {
         mkdir(alloc, users, words)
+    } else if name == b"rename".as_slice() {
+        rename(alloc, users, words)
     } else {
         call_over(alloc, users, name, words)
     }

@@ -41,6 +41,7 @@ pub fn push_call(
         Request::StatPath { path } => push_stat(text, config, thread, path),
         Request::Unlink { path } => push_unlink(text, config, thread, path),
         Request::Mkdir { path, mode } => push_mkdir(text, config, thread, path, *mode),
+        Request::Rename { from, to } => push_rename(text, config, thread, from, to),
         Request::Read { coid, count } => push_read(text, config, thread, *coid, *count),
         Request::Write { coid, bytes } => push_write(text, config, thread, *coid, bytes),
         Request::Close { coid } => push_close(text, config, thread, *coid),
@@ -189,6 +190,21 @@ fn push_mkdir(
     push_at_path(text, config, b"mkdir", thread, path)?;
     text.push(b' ')?;
     push_mode(text, mode)
+}
+
+#[tactic(auto, unfolding(crate::specs::Calls::call_text))]
+fn push_rename(
+    text: &mut Vec<u8>,
+    config: &Config,
+    thread: Thread,
+    from: &Bytes,
+    to: &Bytes,
+) -> Result<(), NoMemory>
+    ensures ok { OnOk result (text.new.items ≡ text.old.items ++ call_text config.now thread (Request.Rename from.now to.now)) }
+{
+    push_at_path(text, config, b"rename", thread, from)?;
+    text.push(b' ')?;
+    Ok(text.extend_from_slice(to.as_slice())?)
 }
 
 #[tactic(auto, unfolding(crate::specs::Calls::call_text))]

@@ -28,7 +28,7 @@ call_target config c thread request = target_among config (mounts_of c.mounts th
 
 -- the message of a call that goes there
 abbrev pub sent_to : Addressed → Request → Sent
-sent_to addressed request = record { target = addressed.target; is_asked = false; bytes = bytes_of (content_of request addressed.rest) }
+sent_to addressed request = record { target = addressed.target; is_asked = false; bytes = bytes_of (content_of request addressed.rest addressed.to) }
 
 -- once the message of a call is sent to where it goes, if it goes anywhere
 abbrev pub after_call : Channel → Thread → Request → Result Addressed Outcome → Channel
@@ -42,12 +42,12 @@ told_of (Err outcome) = Err outcome
 
 -- the memory that is kept for messages once a call is sent to where it goes, if it goes anywhere
 abbrev pub kept_after : Request → Result Addressed Outcome → ℕ → ℕ
-kept_after request (Ok addressed) kept = kept_beside (bytes_of (content_of request addressed.rest)) kept
+kept_after request (Ok addressed) kept = kept_beside (bytes_of (content_of request addressed.rest addressed.to)) kept
 kept_after request (Err outcome) kept = kept
 
 -- what a call wants memory for is there: it goes over a connection that is there, its message stands in its value or fits into the memory
 -- that is kept, and its thread has room for the reply
 pub record HasMemory (kept : ℕ) (place : Option ThreadRow) (request : Request) (addressed : Addressed) : Type 0 where
   pub over : IsExisting addressed.target.over
-  pub message : FitInto (bytes_of (content_of request addressed.rest)) kept
+  pub message : FitInto (bytes_of (content_of request addressed.rest addressed.to)) kept
   pub room : IfSome place (λ row. IsTrue row.has_room)

@@ -190,7 +190,7 @@ impl Channel {
         let sent = Sent {
             target: addressed.target,
             is_asked: false,
-            bytes: encoded(memory, request, &addressed.rest)?,
+            bytes: encoded(memory, request, &addressed.rest, &addressed.to)?,
         };
         send_on(processes, &mut self.tables.shared, alloc, thread, sent)?;
         Ok(Ok(()))

@@ -1,7 +1,7 @@
 -- The names of errors, as they are printed.
 use Rattle.std.specs.Prelude.{ℕ, List, codes}
 use Rattle.qx_errno.specs.declared.Errno.{Errno}
-use Rattle.qx_errno.specs.declared.Errno.TheVariants.{EACCES, EAGAIN, EBADF, EBUSY, EEXIST, EFBIG, EINTR, EINVAL, EISDIR, EMFILE, ENAMETOOLONG, ENFILE, ENOENT, ENOSPC, ENOSYS, ENOTDIR, ENOTEMPTY, EPERM, EPIPE, ESPIPE}
+use Rattle.qx_errno.specs.declared.Errno.TheVariants.{EACCES, EAGAIN, EBADF, EBUSY, EEXIST, EFBIG, EINTR, EINVAL, EISDIR, EMFILE, ENAMETOOLONG, ENFILE, ENOENT, ENOSPC, ENOSYS, ENOTDIR, ENOTEMPTY, EPERM, EPIPE, ESPIPE, EXDEV}
 
 abbrev pub errno_name : Errno → List ℕ
 errno_name EACCES = codes "EACCES"
@@ -24,3 +24,4 @@ errno_name ENOTEMPTY = codes "ENOTEMPTY"
 errno_name EPERM = codes "EPERM"
 errno_name EPIPE = codes "EPIPE"
 errno_name ESPIPE = codes "ESPIPE"
+errno_name EXDEV = codes "EXDEV"

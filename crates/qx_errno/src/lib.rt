@@ -27,6 +27,7 @@ pub enum Errno {
     EPERM,
     EPIPE,
     ESPIPE,
+    EXDEV,
 }
 
 impl Errno {
@@ -55,6 +56,7 @@ impl Errno {
             Errno::EPERM => "EPERM",
             Errno::EPIPE => "EPIPE",
             Errno::ESPIPE => "ESPIPE",
+            Errno::EXDEV => "EXDEV",
         }
     }
 }

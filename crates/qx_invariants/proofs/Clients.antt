@@ -495,7 +495,7 @@ module _ (part : Part) (stands : Stands part) (h : Clientele part) where
   call_clientele : (config : Configuration) (user : ℕ) (thread : Thread) (asked : Request) → Gives Gave (call config user part thread asked)
   call_clientele config user thread asked =
       gives_by (λ (addressed : Addressed). CanSend part thread.proc.num thread.tid addressed.target) _ (target_by config user part.resources.mounts part.processes thread asked) _ (target-sends config user part thread asked) (λ addressed can.
-      let sent : Sent = record { target = addressed.target; is_asked = false; bytes = bytes_of (content_of asked addressed.rest) } in
+      let sent : Sent = record { target = addressed.target; is_asked = false; bytes = bytes_of (content_of asked addressed.rest addressed.to) } in
       let now = queued_sound part.resources.mounts can.process (h.sound thread.proc.num can.process can.process_there) (row_lives can.process thread.tid can.row can.row_there) thread.tid can.row can.row_there (ready_idle can.row.state can.ready) sent can.addressed in
       gives_done _ _ (same_clientele part h _ (continues_with part.resources.mounts part.processes h.sound thread.proc.num (with_queued thread.tid sent) (λ other there.
       subst (λ p. KeepsServers p (with_queued thread.tid sent p) × IsSound part.resources.mounts (with_queued thread.tid sent p)) (same_Some _ _ (sym can.process_there ∙ there)) now))))

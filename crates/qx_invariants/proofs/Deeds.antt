@@ -1,13 +1,13 @@
 -- What deeds do to a user's resources: a property that each change which may happen keeps, each deed and each cancelled call keep.
-use Rattle.std.proofs.Common.{◌≡◌, inl, inr, ℕ, zero, suc, ◌+◌, ◌≤◌, ◌==◌, List, [], ◌∷◌, ◌++◌, length, true, false, refl, sym, ap, ◌∙◌, subst, arith, ltb-true, ltb-false}
-use Rattle.std.specs.Prelude.{IfOk, ℤ, ◌&&◌, Option, Some, None, Result, Ok, Err, is_some, nat_le, nat_lt, not, option_map, position, slice_set}
+use Rattle.std.proofs.Common.{◌≡◌, inl, inr, ℕ, zero, suc, ◌+◌, ◌≤◌, ◌==◌, List, [], ◌∷◌, ◌++◌, length, true, false, refl, sym, ap, ◌∙◌, subst, arith, ltb-true, ltb-false, ◌≢◌, Bool}
+use Rattle.std.specs.Prelude.{IfOk, ℤ, ◌&&◌, Option, Some, None, Result, Ok, Err, is_some, nat_le, nat_lt, not, option_map, position, slice_set, ◌||◌}
 use Rattle.std.specs.FinMap.{get, insert, remove}
 use Rattle.std.specs.List.{AllByRecursion, count_by}
 use Rattle.std.proofs.lemmas.List.{append-nil, append_assoc}
 use Rattle.std.proofs.lemmas.Option.{same_Some}
 use Rattle.std.proofs.lemmas.Bool.{and_parts, cases_eq, cond_both, eq-eqb, leb-true}
 use Rattle.qx_errno.specs.declared.Errno.{Errno}
-use Rattle.qx_errno.specs.declared.Errno.TheVariants.{EACCES, EBADF, EBUSY, EEXIST, EFBIG, EINVAL, EISDIR, EMFILE, ENOENT, ENOSPC, ENOTEMPTY, EPERM}
+use Rattle.qx_errno.specs.declared.Errno.TheVariants.{EACCES, EBADF, EBUSY, EEXIST, EFBIG, EINVAL, EISDIR, EMFILE, ENOENT, ENOSPC, ENOTEMPTY, EPERM, ENOTDIR}
 use Rattle.qx_devices.specs.Devices.{device_number}
 use Rattle.qx_types.specs.declared.fields.NotifyAction.{NotifyAction}
 use Rattle.qx_types.specs.declared.fields.Whence.{Whence}
@@ -36,14 +36,14 @@ use Rattle.qx_machine.specs.declared.rows.Target.{Target}
 use Rattle.qx_machine.specs.declared.rows.WaitingCall.{WaitingCall}
 use Rattle.qx_machine.specs.declared.rows.Wish.{Wish}
 use Rattle.qx_machine.specs.Attributes.{top_inode}
-use Rattle.qx_machine.specs.Defaults.{MadeInode, allows, with_entries_changed as written_to, chmod_block, close_dup, close_ocb, dup_open, free_block, is_own, list_block, made_at, make_directory, open_spot, open_existing, open_missing, open_path, opened, own_block, pipe_in, stat_block, stat_path, unlink_path, unnamed, unopened, without_block, without_name, without_unused, writable}
+use Rattle.qx_machine.specs.Defaults.{MadeInode, allows, cleared, rename_path, rename_to, with_both_changed, with_entries_changed as written_to, chmod_block, close_dup, close_ocb, dup_open, free_block, is_own, list_block, made_at, make_directory, open_spot, open_existing, open_missing, open_path, opened, own_block, pipe_in, stat_block, stat_path, unlink_path, unnamed, unopened, without_block, without_name, without_unused, writable}
 use Rattle.qx_machine.specs.Events.{Notified, disarmed, notified}
 use Rattle.qx_machine.specs.Files.{put, total_size}
 use Rattle.qx_machine.specs.Functions.{Deed, is_side, message_deed, new_coid, new_dup, new_open, reply_alone, side_root}
 use Rattle.qx_machine.specs.Inodes.{Inodes, Numbered, is_open, is_shared, block_number, dup_block, has, inode_number, may, new_attribute, new_block, new_inode, open_block, readers_of, reads, with_attribute, with_offset, writers_of, writes}
 use Rattle.qx_isolation.specs.Judgements.{found, need}
 use Rattle.qx_machine.specs.Managers.{close_all, manager_deed, or_unreplied, own_kind, pipe_connect, pipe_io}
-use Rattle.qx_machine.specs.Names.{Key, Spot, is_directory, is_empty, names_in, root_key, spot, under}
+use Rattle.qx_machine.specs.Names.{Key, Spot, is_directory, is_empty, names_in, root_key, spot, under, Names, is_below, is_same_key, moved as moved_all}
 use Rattle.qx_machine.specs.Notification.{conditions_at, event_of, notify_block}
 use Rattle.qx_machine.specs.PipeManager.{cancel_call, filled, read_pipe, released, seek_pipe, deed_of_pipe, write_pipe}
 use Rattle.qx_machine.specs.Pipes.{PipeAfter, Pipe, cancel, release}
@@ -52,7 +52,7 @@ use Rattle.qx_machine.specs.Resources.{Resources, with_empty}
 use Rattle.qx_isolation.specs.Rows.{put_row, row_at}
 use Rattle.qx_machine.specs.Waiting.{Pipes, holds, is_call, is_gone, is_over, manner_of, offered, sides_of, waiting_call, wanted}
 use Rattle.qx_isolation.proofs.Places.{row_at-set_other}
-use Rattle.qx_invariants.specs.Changes.{AreKept, LeadsTo, ResourceChange, Closes, Comes, Fills, IsDone, IsMoved, IsOwnInode, MayHappen, MayPart, Moves, Notifies, OneLess, OneMore, Opens, Parting, ToOffset, Touches, Unlinks, WithClient, WithLast, Writes, moved, with_change, touched, without_link, with_named}
+use Rattle.qx_invariants.specs.Changes.{AreKept, LeadsTo, ResourceChange, Closes, Comes, Fills, IsDone, IsMoved, IsOwnInode, MayHappen, MayPart, Moves, Notifies, OneLess, OneMore, Opens, Parting, ToOffset, Touches, Unlinks, WithClient, WithLast, Writes, moved, with_change, touched, without_link, with_named, IsDirectoryAt, Renames}
 use Rattle.qx_invariants.specs.Waits.{is_astray, count_waiting_in}
 use Rattle.qx_machine.proofs.Gives.{Gives, found-row, gives_by, gives_done, gives_error, gives_on, gives-value, need-true}
 use Rattle.qx_attr.proofs.CountLemmas.{within_table}
@@ -60,8 +60,8 @@ use Rattle.qx_iofunc.proofs.PlaceLemmas.{put_at, set_at}
 use Rattle.qx_iofunc.proofs.OpenLemmas.{none_in}
 use Rattle.qx_invariants.proofs.Calls.{LeavesWell, cancel_well, no_one, put_short, read_well, release_none, release_well, write_well}
 use Rattle.qx_invariants.proofs.Events.{disarmed-kept, notified-kept}
-use Rattle.qx_invariants.proofs.Rows.{IsNew, filled-kind, with_row-some_at, inode_is_new, put_there, some-is, the-some, with_row-at, with_row-some}
-use Rattle.qx_invariants.proofs.Keys.{insert-at}
+use Rattle.qx_invariants.proofs.Rows.{IsNew, content_cases, filled-kind, freed, unused_cases, with_row-some_at, inode_is_new, put_there, some-is, the-some, with_row-at, with_row-some}
+use Rattle.qx_names.proofs.Keys.{insert-at, nothing_behind, remove-at, remove-other}
 use Rattle.qx_invariants.proofs.Spots.{AreComponents, IsSpot, spot-gives}
 use Rattle.qx_invariants.proofs.Told.{CameWith, IsClosing, IsMadeThere, SeenWith, Told, nothing, seeing, telling, told_by}
 
@@ -156,7 +156,45 @@ abbrev pub NamesComponents : Message → Type 0
 NamesComponents (msg.Open flags mode rest) = AreComponents rest
 NamesComponents (msg.Unlink rest) = AreComponents rest
 NamesComponents (msg.Mknod mode rest) = AreComponents rest
+NamesComponents (msg.Rename from to) = AreComponents from × AreComponents to
 NamesComponents _ = Unit {0}
+
+-- ---- directories that stay
+
+not_true : (b : Bool) → not b ≡ true → b ≡ false
+not_true true e = cc
+not_true false e = refl
+
+own_name : (above : Key) (name : List ℕ) → ◌≡◌ {A = Key} above (under above name) → ⊥
+own_name above name e = let lengths = ap (λ (key : Key). length key.1) e in omega (arith, lengths)
+
+unused_names_same : (own : Kind) (inode : ℕ) (r : Resources) → (without_unused own inode r).names ≡ r.names
+unused_names_same own inode r = unused_cases (λ (s : Resources). s.names ≡ r.names) own inode r (λ gone. content_cases (λ (s : Resources). s.names ≡ r.names) own inode (freed inode r) (λ is. refl) (λ is. refl) (λ is. refl)) (λ stays. refl)
+
+set-directory : (r : Resources) (inode : ℕ) (was now : Attribute) → row_at r.inodes.attributes inode ≡ Some was → now.kind ≡ was.kind → (above : Key) → IsDirectoryAt r above → IsDirectoryAt (record r { inodes = with_attribute r.inodes inode now }) above
+set-directory r inode was now there same above d = elim (cases_eq d.inode inode) [
+  | inl is ↦ record {
+    inode = d.inode;
+    attribute = now;
+    leads = d.leads;
+    there = ap (row_at (slice_set r.inodes.attributes inode (Some now))) is ∙ set_at r.inodes.attributes inode now (within_table r.inodes.attributes inode was there);
+    directory = ap is_directory (same ∙ ap (λ (a : Attribute). a.kind) (same_Some _ _ (sym there ∙ (ap (row_at r.inodes.attributes) (sym is) ∙ d.there)))) ∙ d.directory;
+  }
+  | inr apart ↦ record { inode = d.inode; attribute = d.attribute; leads = d.leads; there = row_at-set_other r.inodes.attributes inode d.inode (Some now) apart ∙ d.there; directory = d.directory }
+]
+
+unused_directory_other : (own : Kind) (inode : ℕ) (r : Resources) (above : Key) (d : IsDirectoryAt r above) → d.inode ≢ inode → IsDirectoryAt (without_unused own inode r) above
+unused_directory_other own inode r above d apart = record {
+  inode = d.inode;
+  attribute = d.attribute;
+  leads = ap (λ (n : Names). get n above) (unused_names_same own inode r) ∙ d.leads;
+  there = unused_cases (λ (s : Resources). row_at s.inodes.attributes d.inode ≡ Some d.attribute) own inode r
+      (λ gone. content_cases (λ (s : Resources). row_at s.inodes.attributes d.inode ≡ Some d.attribute) own inode (freed inode r) (λ is. less) (λ is. less) (λ is. less)) (λ stays. d.there);
+  directory = d.directory;
+}
+  where
+    less : row_at (slice_set r.inodes.attributes inode None) d.inode ≡ Some d.attribute
+    less = row_at-set_other r.inodes.attributes inode d.inode None apart ∙ d.there
 
 -- ---- a block goes
 
@@ -497,6 +535,113 @@ module _ (K : Resources → Told → Type 0) (keeps : (change : ResourceChange) 
           gives_on _ (need (is_own own attribute.kind) ENOENT) _ (λ mine is_mine.
           gives_done _ _ (alone _ _ _ (unnamed-keeps root at is_spot inode (found-row _ _ inode leads) parent above_there (none_in _ (need-true _ _ empty is_one)) attribute (found-row _ _ attribute there) (need-true _ _ mine is_mine) moment))))))))
 
+      -- a name goes to another place
+      module _ (root : ℕ) (from to : Spot) (is_from : IsSpot r root from) (is_to : IsSpot r root to) (parent other : Attribute) (from_there : row_at r.inodes.attributes from.parent ≡ Some parent) (to_there : row_at r.inodes.attributes to.parent ≡ Some other) (moment : ℕ) where
+        abbrev first_changed : Resources
+        first_changed = record r { inodes = with_attribute r.inodes from.parent (written_to moment parent) }
+
+        abbrev both : Resources
+        both = with_both_changed from parent to other moment r
+
+        -- the other directory's attribute once the first one has changed, which may be its own
+        its_other : (now : Attribute) × ((row_at first_changed.inodes.attributes to.parent ≡ Some now) × ((written_to moment other ≡ touched other.mode moment moment now) × (now.kind ≡ other.kind)))
+        its_other = elim (cases_eq to.parent from.parent) [
+          | inl same ↦
+              let alike : parent ≡ other = same_Some _ _ (sym from_there ∙ (ap (row_at r.inodes.attributes) (sym same) ∙ to_there)) in (
+                written_to moment parent,
+                (
+                  ap (row_at first_changed.inodes.attributes) same ∙ set_at r.inodes.attributes from.parent (written_to moment parent) (within_table r.inodes.attributes from.parent parent from_there),
+                  (ap (λ (a : Attribute). touched other.mode moment moment (written_to moment a)) (sym alike), ap (λ (a : Attribute). a.kind) alike),
+                ),
+              )
+          | inr apart ↦ (other, (row_at-set_other r.inodes.attributes from.parent to.parent (Some (written_to moment parent)) apart ∙ to_there, (refl, refl)))
+        ]
+
+        both-keeps : Q both
+        both-keeps = touch-keeps K keeps first_changed nothing (touch-keeps K keeps r nothing h from.parent parent (written_to moment parent) from_there refl) to.parent its_other.0 (written_to moment other) its_other.1.0 its_other.1.1.0
+
+        both-directory : IsDirectoryAt both is_to.above
+        both-directory =
+            set-directory first_changed to.parent its_other.0 (written_to moment other) its_other.1.0 (sym its_other.1.1.1) is_to.above
+            (set-directory r from.parent parent (written_to moment parent) from_there refl is_to.above is_to.directory)
+
+        -- the new name is free, in its directory
+        abbrev IsFree : Resources → Type 0
+        IsFree s = Q s × ((get s.names to.key ≡ None) × IsDirectoryAt s is_to.above)
+
+        cleared-keeps : (there : ℕ) (target : Attribute) → to.inode ≡ Some there → row_at both.inodes.attributes there ≡ Some target → names_in r.names there ≡ [] → is_own own target.kind ≡ true → Q (without_unused own there (record both { inodes = with_attribute both.inodes there (unnamed moment target); names = remove r.names to.key }))
+        cleared-keeps there target leads its empty owned =
+            subst (λ key. Q (without_unused own there (record both { inodes = with_attribute both.inodes there (unnamed moment target); names = remove r.names key }))) (sym is_to.key_is)
+            (subst (λ attributes. Q (without_unused own there (record both { inodes = record both.inodes { attributes = attributes }; names = remove r.names (under is_to.above is_to.name) })))
+            (with_row-some both.inodes.attributes there (without_link target.mtime moment) target its)
+            (keeps (Unlinks own is_to.above is_to.name there target.mtime moment) both nothing
+            (ap (get r.names) (sym is_to.key_is) ∙ (sym is_to.inode_is ∙ leads), empty, record { attribute = target; there = its; owned = owned })
+            both-keeps))
+
+        cleared-free : (there : ℕ) (target : Attribute) → to.inode ≡ Some there → row_at both.inodes.attributes there ≡ Some target → names_in r.names there ≡ [] → is_own own target.kind ≡ true
+            → IsFree (without_unused own there (record both { inodes = with_attribute both.inodes there (unnamed moment target); names = remove r.names to.key }))
+        cleared-free there target leads its empty owned = (cleared-keeps there target leads its empty owned, (free, directory))
+          where
+            s : Resources
+            s = record both { inodes = with_attribute both.inodes there (unnamed moment target); names = remove r.names to.key }
+
+            free : get (without_unused own there (record both { inodes = with_attribute both.inodes there (unnamed moment target); names = remove r.names to.key })).names to.key ≡ None
+            free = ap (λ (n : Names). get n to.key) (unused_names_same own there (record both { inodes = with_attribute both.inodes there (unnamed moment target); names = remove r.names to.key })) ∙ remove-at r.names to.key
+
+            leads_there : get r.names (under is_to.above is_to.name) ≡ Some there
+            leads_there = ap (get r.names) (sym is_to.key_is) ∙ (sym is_to.inode_is ∙ leads)
+
+            -- what goes is not the directory that has the name
+            apart : both-directory.inode ≢ there
+            apart same = nothing_behind r.names there is_to.above (both-directory.leads ∙ ap Some same) is_to.name empty there leads_there
+
+            directory : IsDirectoryAt (without_unused own there (record both { inodes = with_attribute both.inodes there (unnamed moment target); names = remove r.names to.key })) is_to.above
+            directory = unused_directory_other own there (record both { inodes = with_attribute both.inodes there (unnamed moment target); names = remove r.names to.key }) is_to.above (record {
+              inode = both-directory.inode;
+              attribute = both-directory.attribute;
+              leads = remove-other r.names to.key is_to.above both-directory.inode both-directory.leads (λ same. own_name is_to.above is_to.name (same ∙ is_to.key_is));
+              there = row_at-set_other both.inodes.attributes there both-directory.inode (Some (unnamed moment target)) apart ∙ both-directory.there;
+              directory = both-directory.directory;
+            }) apart
+
+        cleared-gives : (attribute : Attribute) (x : Option ℕ) → to.inode ≡ x → Gives IsFree (cleared own attribute to x moment both)
+        cleared-gives _ None none = gives_done _ _ (both-keeps, (sym is_to.inode_is ∙ none, both-directory))
+        cleared-gives attribute (Some there) leads =
+            gives_on _ (found (row_at both.inodes.attributes there) ENOENT) _ (λ target its.
+            gives_on _ (need (is_directory target.kind || not (is_directory attribute.kind)) ENOTDIR) _ (λ onto is_onto.
+            gives_on _ (need (is_directory attribute.kind || not (is_directory target.kind)) EISDIR) _ (λ no_directory is_none.
+            gives_on _ (need (is_empty (names_in r.names there)) ENOTEMPTY) _ (λ empty is_one.
+            gives_on _ (need (is_own own target.kind) ENOENT) _ (λ mine is_mine.
+            gives_done _ _ (cleared-free there target leads (found-row _ _ target its) (none_in _ (need-true _ _ empty is_one)) (need-true _ _ mine is_mine)))))))
+
+        renamed-keeps : (s : Resources) → IsFree s → is_below from.key to.key.0 to.key.1 ≡ false → Q (record s { names = moved_all s.names from.key to.key })
+        renamed-keeps s is outside =
+            subst (λ key. Q (record s { names = moved_all s.names key to.key })) (sym is_from.key_is)
+            (subst (λ key. Q (record s { names = moved_all s.names (under is_from.above is_from.name) key })) (sym is_to.key_is)
+            (keeps (Renames is_from.above is_from.name is_to.above is_to.name) s nothing (
+              is.1.1,
+              ap (get s.names) (sym is_to.key_is) ∙ is.1.0,
+              is_to.component,
+              ap (λ key. is_below key is_to.above.0 (is_to.name ∷ is_to.above.1)) (sym is_from.key_is) ∙ ap (λ (key : Key). is_below from.key key.0 key.1) (sym is_to.key_is) ∙ outside,
+              sym is_from.root_is ∙ is_to.root_is,
+            ) is.0))
+
+      rename-gives : (root : ℕ) (old new : List (List ℕ)) (moment : ℕ) → AreComponents old → AreComponents new → Gives Kept (rename_path own r root old new moment)
+      rename-gives root old new moment components others =
+          gives_on _ (need (not (length old == 0) && not (length new == 0)) EBUSY) _ (λ named is_named.
+          gives_by (IsSpot r root) _ (spot r.inodes r.names r.user root old EBUSY) _ (spot-gives r r.user root old EBUSY components) (λ from is_from.
+          gives_on _ (found from.inode ENOENT) _ (λ inode leads.
+          gives_by (IsSpot r root) _ (spot r.inodes r.names r.user root new EBUSY) _ (spot-gives r r.user root new EBUSY others) (λ to is_to.
+          gives_by (λ attribute. row_at r.inodes.attributes from.parent ≡ Some attribute) _ (writable r.inodes r.user from.parent) _ (writable-gives K keeps r h root from.parent) (λ parent from_there.
+          gives_by (λ attribute. row_at r.inodes.attributes to.parent ≡ Some attribute) _ (writable r.inodes r.user to.parent) _ (writable-gives K keeps r h root to.parent) (λ other to_there.
+          cond_both (is_same_key from.key to.key) (Ok (reply_alone 0 [] Keeps r)) (rename_to own r from inode parent to other moment) (Gives Kept)
+          (λ same. gives_done _ _ (alone _ _ _ h))
+          (λ apart.
+          gives_on _ (found (row_at r.inodes.attributes inode) ENOENT) _ (λ attribute there.
+          gives_on _ (need (not (is_below from.key to.key.0 to.key.1)) EINVAL) _ (λ outside is_outside.
+          gives_by (IsFree root from to is_from is_to parent other from_there to_there moment) _ (cleared own attribute to to.inode moment (with_both_changed from parent to other moment r)) _ (cleared-gives root from to is_from is_to parent other from_there to_there moment attribute to.inode refl) (λ s is.
+          gives_done _ _ (alone _ _ _ (renamed-keeps root from to is_from is_to parent other from_there to_there moment s is (not_true _ (need-true _ _ outside is_outside))))))))))))))
+
     -- ---- what is done to a pipe
 
     -- a call over the open control block of a pipe
@@ -629,6 +774,7 @@ module _ (K : Resources → Told → Type 0) (keeps : (change : ResourceChange) 
     ram-gives mine (msg.Stat rest) names = gives_on _ (side_root context.target) _ (λ root is. stat_path-gives root rest context.moment)
     ram-gives mine (msg.Unlink rest) names = gives_on _ (side_root context.target) _ (λ root is. unlink-gives File root rest context.moment names)
     ram-gives mine (msg.Mknod mode rest) names = gives_on _ (side_root context.target) _ (λ root is. directory-gives root mode rest context.moment (side_root-is context.target root is) names)
+    ram-gives mine (msg.Rename from to) names = gives_on _ (side_root context.target) _ (λ root is. rename-gives File root from to context.moment names.0 names.1)
     ram-gives mine (msg.Read count) names = gives_on _ context.opened _ (λ over is. read_file-gives over count)
     ram-gives mine (msg.Write bytes) names = gives_on _ context.opened _ (λ over is. write_file-gives over bytes)
     ram-gives mine msg.Close names = gives_on _ context.opened _ (λ over is. close_dup-gives File over is)
@@ -644,6 +790,7 @@ module _ (K : Resources → Told → Type 0) (keeps : (change : ResourceChange) 
     pipe-gives own mine (msg.Stat rest) names = gives_on _ (side_root context.target) _ (λ root is. stat_path-gives root rest context.moment)
     pipe-gives own mine (msg.Unlink rest) names = gives_on _ (side_root context.target) _ (λ root is. unlink-gives own root rest context.moment names)
     pipe-gives own mine (msg.Mknod mode rest) names = gives_error _ _
+    pipe-gives own mine (msg.Rename from to) names = gives_error _ _
     pipe-gives own mine (msg.Read count) names = gives_on _ context.opened _ (λ over is. read-gives over count is)
     pipe-gives own mine (msg.Write bytes) names = gives_on _ context.opened _ (λ over is. write-gives over bytes is)
     pipe-gives own mine msg.Close names = gives_on _ context.opened _ (λ over is. close_dup-gives own over is)

@@ -1,16 +1,16 @@
 -- A user has no more processes, connections and server connections than the user's limits, whatever steps are taken.
 use Rattle.std.proofs.Common.{◌≡◌, ◌≢◌, inl, inr, ℕ, zero, suc, ◌+◌, ◌<◌, ◌≤◌, ◌==◌, Bool, true, false, not, List, [], ◌∷◌, length, map, refl, sym, ap, ◌∙◌, subst, arith}
 use Rattle.std.specs.Prelude.{◌||◌, ◌&&◌, Option, Some, None, Result, Ok, Err, if◌then◌else◌, is_none, is_some, nat_le, nat_lt, option_map, replicate, slice_set, sum_by}
-use Rattle.std.specs.List.{count_by, list_any}
+use Rattle.std.specs.List.{count_by}
 use Rattle.std.proofs.lemmas.Bool.{cases_Bool, cases_eq, cond_both, leb-true, ltb-true, ne_eqb, or_left, or_right}
 use Rattle.std.proofs.Math.ListN.{length-set}
 use Rattle.std.proofs.lemmas.List.Sums.{sum_by-append, sum_by-cons}
 use Rattle.std.proofs.lemmas.Option.{same_Some}
-use Rattle.qx_types.specs.Configuration.{Configuration, limits_of, name_bytes}
+use Rattle.qx_types.specs.Configuration.{Configuration, limits_of}
 use Rattle.qx_types.specs.Managers.{manager_number}
 use Rattle.qx_types.specs.UserLimits.{UserLimits}
 use Rattle.qx_errno.specs.declared.Errno.{Errno}
-use Rattle.qx_errno.specs.declared.Errno.TheVariants.{EAGAIN, EBADF, EINTR, EINVAL, EMFILE}
+use Rattle.qx_errno.specs.declared.Errno.TheVariants.{EAGAIN, EBADF, EINTR, EINVAL, EMFILE, EXDEV}
 use Rattle.qx_types.specs.declared.limits.TheConstants.Limits.{FIRST_CONNECTION, LAST_CONNECTION, THREADS}
 use Rattle.qx_types.specs.declared.names.Coid.{Coid}
 use Rattle.qx_types.specs.declared.names.Manager.{Manager}
@@ -44,7 +44,7 @@ use Rattle.qx_machine.specs.declared.rows.State.TheVariants as state
 use Rattle.qx_machine.specs.declared.rows.Target.{Target}
 use Rattle.qx_machine.specs.declared.rows.ThreadRow.{ThreadRow}
 use Rattle.qx_machine.specs.declared.rows.WaitingCall.{WaitingCall}
-use Rattle.qx_machine.specs.Calls.{Address, Connects, Duplicates, Opens, Uses, address, bytes_of, can_serve, connection_at, content_of, free_connection, may_call, place_of, server_count, target_at, to_place}
+use Rattle.qx_machine.specs.Calls.{Address, Connects, ConnectsBoth, Duplicates, Opens, Uses, address, bytes_of, can_serve, connection_at, content_of, free_connection, may_call, place_of, server_count, target_at, to_place}
 use Rattle.qx_machine.specs.Clients.{ClientStep, answer_in, call, client_given, interrupt_in, may_give, mount_by, pulse_taken, set_prio, spawn, spawn_number, take_reply, target_by}
 use Rattle.qx_machine.specs.Events.{first_pulse}
 use Rattle.qx_machine.specs.Functions.{Deed, Reply, new_coid}
@@ -329,8 +329,8 @@ module _ (config : Configuration) (user : ℕ) (mounts : List MountPoint) (proce
   abbrev IsNext : ℕ → Type 0
   IsNext number = (number ≡ lowest_from FIRST_CONNECTION process.connections) × (number < FIRST_CONNECTION + own.connections)
 
-  place-fits : (place : Resolved) (over : Over) → ((coid : Coid) → new_coid over ≡ Some coid → IsNext coid.0) → Gives Fit (to_place own.servers processes process place over prio)
-  place-fits place over next =
+  place-fits : (place : Resolved) (to : List (List ℕ)) (over : Over) → ((coid : Coid) → new_coid over ≡ Some coid → IsNext coid.0) → Gives Fit (to_place own.servers processes process place to over prio)
+  place-fits place to over next =
       gives_on _ (need (can_serve own.servers processes process place.manager) (Refused EAGAIN)) _ (λ can is_can.
       gives_done _ _ (record { lowest = λ coid is. (next coid is).0; below = λ coid is. (next coid is).1; serves = need-true _ _ can is_can }))
 
@@ -350,8 +350,12 @@ module _ (config : Configuration) (user : ℕ) (mounts : List MountPoint) (proce
   addressed-fits (Opens path) =
       gives_on _ (or_refused (place_of config user mounts path)) _ (λ place is_place.
       gives_by IsNext _ (free_connection own.connections process) _ free-fits (λ number next.
-      place-fits place (New (record { 0 = number })) (λ coid over. subst (λ (c : Coid). IsNext c.0) (same_Some _ _ over) next)))
-  addressed-fits (Connects path) = gives_on _ (or_refused (place_of config user mounts path)) _ (λ place is_place. place-fits place Side (λ coid over. absurd (cc)))
+      place-fits place [] (New (record { 0 = number })) (λ coid over. subst (λ (c : Coid). IsNext c.0) (same_Some _ _ over) next)))
+  addressed-fits (Connects path) = gives_on _ (or_refused (place_of config user mounts path)) _ (λ place is_place. place-fits place [] Side (λ coid over. absurd (cc)))
+  addressed-fits (ConnectsBoth path to) =
+      gives_on _ (or_refused (place_of config user mounts path)) _ (λ place is_place.
+      gives_on _ (or_refused (place_of config user mounts to)) _ (λ other is_other.
+      gives_on _ (need (place.root == other.root) (Refused EXDEV)) _ (λ same is_same. place-fits place other.rest Side (λ coid over. absurd (cc)))))
   addressed-fits (Uses coid) =
       gives_by (λ connection. row_at process.connections coid ≡ Some connection) _ (connection_at coid process) _ (connection-there coid) (λ connection there.
       gives_done _ _ (record { lowest = λ other over. absurd (cc); below = λ other over. absurd (cc); serves = used_serves coid connection there }))
@@ -578,7 +582,7 @@ module _ (config : Configuration) (user : ℕ) (part : Part) (well : StandsWell 
   call_few : (thread : Thread) (asked : Request) → Gives FewGiven (call config user part thread asked)
   call_few thread asked =
       gives_by (λ (addressed : Addressed). Sender thread.proc.num addressed.target) _ (target_by config user part.resources.mounts part.processes thread asked) _ (target-few thread asked) (λ addressed sender.
-      let sent : Sent = record { target = addressed.target; is_asked = false; bytes = bytes_of (content_of asked addressed.rest) } in
+      let sent : Sent = record { target = addressed.target; is_asked = false; bytes = bytes_of (content_of asked addressed.rest addressed.to) } in
       gives_done _ _ (few_sent limits part.processes h thread.proc.num sender.process sender.there (all_served thread.proc.num sender.process sender.there) sender.room thread.tid sent sender.fits))
 
   one_few : (thread : Thread) (change : ThreadRow → ThreadRow) → AreFew limits (with_process thread.proc.num (with_thread thread.tid change) part).processes

@@ -18,7 +18,7 @@ use Rattle.qx_isolation.specs.Rows.{row_at, with_row}
 use Rattle.qx_machine.specs.Waiting.{Pipes, is_gone}
 use Rattle.qx_isolation.proofs.Places.{row_at-set_other}
 use Rattle.qx_iofunc.proofs.PlaceLemmas.{put_at, row-freed}
-use Rattle.qx_invariants.specs.Changes.{Abandons, Closes, Comes, Fills, MayHappen, Mounts, Move, Moves, Notifies, OneLess, OneMore, Opens, ResourceChange, ToOffset, Touches, Unlinks, Writes, moved, with_change, with_moved, with_named, with_opened, with_unlinked}
+use Rattle.qx_invariants.specs.Changes.{Abandons, Closes, Comes, Fills, MayHappen, Mounts, Move, Moves, Notifies, OneLess, OneMore, Opens, Renames, ResourceChange, ToOffset, Touches, Unlinks, Writes, moved, with_change, with_moved, with_named, with_opened, with_unlinked}
 use Rattle.qx_invariants.specs.Holds.{HasRoom}
 use Rattle.qx_invariants.specs.Waits.{count_waiting, count_waiting_in}
 use Rattle.qx_invariants.proofs.Balances.{set_other}
@@ -211,6 +211,7 @@ module _ (first : Resources) where
   now-held (Touches inode mode mtime ctime) r told may h none = held-keep (Touches inode mode mtime ctime) r told tt may (sym (append-nil told.came)) h.holds (h.held none)
   now-held (Writes inode moment bytes) r told may h none = held-keep (Writes inode moment bytes) r told tt may (sym (append-nil told.came)) h.holds (h.held none)
   now-held (Unlinks own directory name inode mtime ctime) r told may h none = held-keep (Unlinks own directory name inode mtime ctime) r told tt may (sym (append-nil told.came)) h.holds (h.held none)
+  now-held (Renames above name directory next) r told may h none = held-keep (Renames above name directory next) r told tt may (sym (append-nil told.came)) h.holds (h.held none)
   now-held (Notifies events) r told may h none = held-keep (Notifies events) r told tt may (sym (append-nil told.came)) h.holds (h.held none)
 
   pub holdings-keep : (change : ResourceChange) (r : Resources) (told : Told) → MayHappen change r → Holdings r told → Holdings (with_change change r) (told_by change told)

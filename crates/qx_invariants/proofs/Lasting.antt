@@ -24,7 +24,7 @@ use Rattle.qx_isolation.specs.Rows.{row_at}
 use Rattle.qx_isolation.proofs.Places.{row_at-set_cases, row_at-set_other, set-row_at}
 use Rattle.qx_attr.specs.inner.Counts.{one}
 use Rattle.qx_iofunc.proofs.PlaceLemmas.{row-freed}
-use Rattle.qx_invariants.specs.Changes.{Abandons, Closes, Comes, Fills, IsOwnInode, MayHappen, Mounts, Moves, Notifies, Opens, ResourceChange, ToOffset, OneMore, OneLess, Touches, Unlinks, WithClient, Writes, moved, with_change, with_named, with_unlinked}
+use Rattle.qx_invariants.specs.Changes.{Abandons, Closes, Comes, Fills, IsOwnInode, MayHappen, Mounts, Moves, Notifies, Opens, Renames, ResourceChange, ToOffset, OneMore, OneLess, Touches, Unlinks, WithClient, Writes, moved, with_change, with_named, with_unlinked}
 use Rattle.qx_invariants.specs.Holds.{HasRoom}
 use Rattle.qx_invariants.proofs.Counts.{count-cons}
 use Rattle.qx_invariants.proofs.Deeds.{close_ocb-gives, or_unreplied-closed}
@@ -118,6 +118,7 @@ module _ (first : Resources) (C : Client → Type 0) where
   now-lasts (Writes inode moment bytes) r told may h = not_seen (Writes inode moment bytes) r told may (tt, tt) refl h
   now-lasts (Fills inode moment after came) r told may h = not_seen (Fills inode moment after came) r told may (tt, tt) refl h
   now-lasts (Unlinks own directory name inode mtime ctime) r told may h = not_seen (Unlinks own directory name inode mtime ctime) r told may (tt, tt) (same_mounts (Unlinks own directory name inode mtime ctime) r) h
+  now-lasts (Renames above name directory next) r told may h = not_seen (Renames above name directory next) r told may (tt, tt) refl h
   now-lasts (Notifies events) r told may h = not_seen (Notifies events) r told may (tt, tt) refl h
 
   pub lasting-keeps : (change : ResourceChange) (r : Resources) (told : Told) → MayHappen change r → Lasting r told → Lasting (with_change change r) (told_by change told)

@@ -26,8 +26,6 @@ pub mod Made
 pub mod Contents
 -- all of it, whatever happens
 pub mod Together
--- paths that come and go, and the names in a directory
-pub mod Keys
 -- what managers have
 pub mod Managed
 -- names and links

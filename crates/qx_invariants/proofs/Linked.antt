@@ -179,7 +179,7 @@ module _ (part : Part) (named : Client → ℕ) (well : StandsWell part) (h : Co
   call_connected : (config : Configuration) (user : ℕ) (thread : Thread) (asked : Request) → Gives Gave (call config user part thread asked)
   call_connected config user thread asked =
       gives_by (λ (addressed : Addressed). CanSend part thread.proc.num thread.tid addressed.target) _ (target_by config user part.resources.mounts part.processes thread asked) _ (target-sends config user part thread asked) (λ addressed can.
-      let sent : Sent = record { target = addressed.target; is_asked = false; bytes = bytes_of (content_of asked addressed.rest) } in
+      let sent : Sent = record { target = addressed.target; is_asked = false; bytes = bytes_of (content_of asked addressed.rest addressed.to) } in
       gives_done _ _ (quiet (with_process thread.proc.num (with_queued thread.tid sent) part) (sent_connected thread.proc.num thread.tid sent can) (Put addressed.target.manager (item.Message thread.proc.num thread.tid) addressed.target.prio.0 ∷ []) (λ own. refl)))
 
   -- ---- what threads do

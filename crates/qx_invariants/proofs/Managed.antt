@@ -26,9 +26,11 @@ use Rattle.qx_machine.specs.Resources.{Resources, resized, with_empty}
 use Rattle.qx_isolation.specs.Rows.{row_at}
 use Rattle.qx_isolation.proofs.Places.{row_at-set_cases}
 use Rattle.qx_iofunc.proofs.PlaceLemmas.{put_at}
-use Rattle.qx_invariants.specs.Changes.{Abandons, Closes, Comes, Fills, IsDirectoryAt, IsMoved, LeadsTo, MayHappen, Mounts, Moves, Notifies, Opens, ResourceChange, Touches, Unlinks, Writes, moved, touched, with_change, with_changed, with_moved, with_named, with_unlinked, without_link}
+use Rattle.qx_invariants.specs.Changes.{Abandons, Closes, Comes, Fills, IsDirectoryAt, IsMoved, LeadsTo, MayHappen, Mounts, Moves, Notifies, Opens, Renames, ResourceChange, Touches, Unlinks, Writes, moved, touched, with_change, with_changed, with_moved, with_named, with_unlinked, without_link}
 use Rattle.qx_invariants.specs.Holds.{HasKinds, HasMounts, HasNames, HasTree}
-use Rattle.qx_invariants.proofs.Keys.{insert-cases, remove-kept}
+use Rattle.qx_names.proofs.Moved.{same_mount, was_led}
+use Rattle.qx_invariants.proofs.Named.{led_above}
+use Rattle.qx_names.proofs.Keys.{insert-cases, remove-kept}
 use Rattle.qx_invariants.proofs.Rows.{IsNew, block_is_new, content_cases, empty_cases, filled-kind, freed, inode_is_new, put_cases, unused_cases, with_row-was}
 use Rattle.qx_invariants.proofs.Together.{Holds, none_there, the_root}
 
@@ -297,6 +299,16 @@ kinds-keep (Unlinks own directory name inode mtime ctime) r may all fits h =
     let unlinked = with_unlinked inode (under directory name) mtime ctime r in
     kinds-less r _ (less_less r unlinked _ (unlinked-less r inode (under directory name) mtime ctime) (unused-less own inode unlinked)) h
 kinds-keep (Closes own number block parting) r may all fits h = kinds-less r _ (less_less r (without_block number r) _ (closed-less r number) (unused-less own block.inode (without_block number r))) h
+kinds-keep (Renames above name directory next) r may all fits h = record {
+  kinds = record {
+    named = λ number mount there path inode attribute leads is.
+        let was = was_led r.names (under above name) (under directory next) (mount.root, path) inode leads in
+        let root : was.0.0 ≡ mount.root = sym (same_mount r.names all.names.single (led_above r all.tree) above directory name next may.1 may.3 may.4 was.0.0 was.0.1) ∙ ap (λ (key : Key). key.0) was.1.1 in
+        h.kinds.named number mount there was.0.1 inode attribute (ap (λ m. get r.names (m, was.0.1)) (sym root) ∙ was.1.0) is;
+    opened = h.kinds.opened;
+  };
+  apart = h.apart;
+}
 kinds-keep (Notifies events) r may all fits h = kinds-less r _ (same-less _ _ refl refl refl) h
 kinds-keep (Abandons process) r may all fits h = kinds-less r _ (same-less _ _ refl refl refl) h
 

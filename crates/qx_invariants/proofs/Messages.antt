@@ -10,7 +10,7 @@ use Rattle.qx_wire.specs.declared.message.Message.{Message}
 use Rattle.qx_wire.specs.declared.message.Message.TheVariants as msg
 use Rattle.qx_wire.specs.Reading.{cut, judged, meaning}
 use Rattle.qx_wire.specs.Rests.{is_component, is_rest, joined}
-use Rattle.qx_wire.specs.Table.{flags, in_ranges, mode}
+use Rattle.qx_wire.specs.Table.{flags, in_ranges, mode, rest_length}
 use Rattle.qx_invariants.proofs.Deeds.{NamesComponents}
 use Rattle.qx_invariants.proofs.Spots.{AreComponents}
 
@@ -25,6 +25,9 @@ ranged : (message : Message) → in_ranges message ≡ true → NamesComponents 
 ranged (msg.Open f m rest) is = rest-components rest ((and_parts (mode m).good (is_rest rest && true) ((and_parts (flags f.0).good ((mode m).good && (is_rest rest && true)) is).1)).1)
 ranged (msg.Unlink rest) is = rest-components rest is
 ranged (msg.Mknod m rest) is = rest-components rest ((and_parts (mode m).good (is_rest rest && true) is).1)
+ranged (msg.Rename from to) is =
+    let both = and_parts (is_rest from) (is_rest to && true) ((and_parts (rest_length from).good (is_rest from && (is_rest to && true)) is).1) in
+    (components from ((and_parts (nat_le (length (joined from)) PATH) (list_all is_component from) both.0).1), rest-components to both.1)
 ranged _ is = tt
 
 by_cut : (given : Meaning) (message : Message) → judged given ≡ Known message → NamesComponents message

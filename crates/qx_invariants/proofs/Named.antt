@@ -1,5 +1,5 @@
 -- Names, links and open control blocks stand together, whatever happens.
-use Rattle.std.proofs.Common.{◌≡◌, ◌≢◌, ◌⊎◌, inl, inr, ℕ, ◌==◌, ◌&&◌, ◌≤◌, Bool, true, false, List, refl, sym, ap, ◌∙◌, subst, arith}
+use Rattle.std.proofs.Common.{◌≡◌, ◌≢◌, ◌⊎◌, inl, inr, ℕ, ◌==◌, ◌&&◌, ◌≤◌, Bool, true, false, List, ◌∷◌, refl, sym, ap, ◌∙◌, subst, arith}
 use Rattle.std.specs.Prelude.{Option, Some, None, is_some, length, option_map, slice_set}
 use Rattle.std.specs.FinMap.{get, insert, remove}
 use Rattle.std.proofs.lemmas.Bool.{and_parts, cases_eq, eqb-true}
@@ -14,16 +14,19 @@ use Rattle.qx_machine.specs.Attributes.{root_attribute}
 use Rattle.qx_machine.specs.Defaults.{without_block, without_unused}
 use Rattle.qx_machine.specs.Inodes.{Inodes, blocks_of, close_block, is_unused, new_attribute}
 use Rattle.qx_machine.specs.Listings.{HasAtMostOnePath}
-use Rattle.qx_machine.specs.Names.{Key, Names, root_key, under}
+use Rattle.qx_machine.specs.Names.{Key, Names, is_below, root_key, under}
+use Rattle.qx_machine.specs.Names.{moved as moved_all}
 use Rattle.qx_machine.specs.PipeManager.{filled}
 use Rattle.qx_machine.specs.Resources.{Resources, resized}
 use Rattle.qx_isolation.specs.Rows.{put_row, row_at, with_row}
 use Rattle.qx_isolation.proofs.Places.{row_at-set_cases, row_at-set_other}
-use Rattle.qx_invariants.specs.Changes.{ResourceChange, Closes, Comes, Fills, IsMoved, MayHappen, Mounts, Moves, Opens, Touches, Unlinks, Writes, moved, with_change, touched, without_link, with_changed, with_moved, with_named, with_opened, with_unlinked}
-use Rattle.qx_invariants.specs.Holds.{HasNames, HasRoom, IsNamed, IsUnnamed}
+use Rattle.qx_invariants.specs.Changes.{ResourceChange, Closes, Comes, Fills, IsMoved, MayHappen, Mounts, Moves, Opens, Touches, Unlinks, Writes, moved, with_change, touched, without_link, with_changed, with_moved, with_named, with_opened, with_unlinked, Renames}
+use Rattle.qx_invariants.specs.Holds.{HasNames, HasRoom, IsNamed, IsUnnamed, HasTree}
 use Rattle.qx_iofunc.proofs.PlaceLemmas.{put_at, row-freed}
 use Rattle.qx_invariants.proofs.Rows.{IsNew, content_cases, empty_cases, freed, more_blocks, block_is_new, inode_is_new, not_open, other_blocks, put_other, same_blocks, unused_cases, with_row-at, with_row-other, filled-same, put_cases, with_row-some_at, with_row-was}
-use Rattle.qx_invariants.proofs.Keys.{insert-at, insert-cases, insert-other, not_root, remove-kept, remove-other}
+use Rattle.qx_names.proofs.MovedLemmas.{go}
+use Rattle.qx_names.proofs.Moved.{is_led, roots_moved, single_moved, was_led}
+use Rattle.qx_names.proofs.Keys.{insert-at, insert-cases, insert-other, not_root, remove-kept, remove-other}
 
 -- ---- whether an inode is unused
 
@@ -252,21 +255,42 @@ free_root r h root free = by (get r.names (root_key root)) refl
     by None is = refl
     by (Some inode) is = absurd (none-some _ (ap (row_at r.inodes.attributes) (h.roots root inode is) ∙ free) (h.leads (root_key root) inode is))
 
-pub names-keep : (change : ResourceChange) (r : Resources) → MayHappen change r → HasRoom r → HasNames r → HasNames (with_change change r)
-names-keep (Mounts mount) r may room h =
+-- a path that leads somewhere is in a directory that a path leads to
+pub led_above : (r : Resources) → HasTree r → (above : Key) (name : List ℕ) (inode : ℕ) → get r.names (under above name) ≡ Some inode → (directory : ℕ) × (get r.names above ≡ Some directory)
+led_above r tree above name inode leads = let d = (tree.entries above name inode leads).directory in (d.inode, d.leads)
+
+-- what begins with a path begins with another
+module _ (r : Resources) (h : HasNames r) (one two : Key) (last next : List ℕ) (free : get r.names (under two next) ≡ None) (outside : is_below (under one last) two.0 (next ∷ two.1) ≡ false) (tree : (above : Key) (name : List ℕ) (inode : ℕ) → get r.names (under above name) ≡ Some inode → (directory : ℕ) × (get r.names above ≡ Some directory)) where
+  renamed_links : (inode : ℕ) (attribute : Attribute) → IsNamed r.names inode attribute ⊎ IsUnnamed r.names inode attribute → IsNamed (moved_all r.names (under one last) (under two next)) inode attribute ⊎ IsUnnamed (moved_all r.names (under one last) (under two next)) inode attribute
+  renamed_links inode attribute (inl is) = inl (record { links = is.links; key = go (under one last) (under two next) is.key; leads = is_led r.names h.single tree one two last next free outside is.key inode is.leads })
+  renamed_links inode attribute (inr is) = inr (record { links = is.links; none = λ key leads. let was = was_led r.names (under one last) (under two next) key inode leads in is.none was.0 was.1.0 })
+
+  moved_names : HasNames (record r { names = moved_all r.names (under one last) (under two next) })
+  moved_names = record {
+    leads = λ key inode leads. let was = was_led r.names (under one last) (under two next) key inode leads in h.leads was.0 inode was.1.0;
+    single = single_moved r.names h.single tree one two last next free outside;
+    roots = roots_moved r.names h.single tree one two last next free outside h.roots;
+    links = λ inode attribute there. renamed_links inode attribute (h.links inode attribute there);
+    used = h.used;
+    opened = h.opened;
+  }
+
+pub names-keep : (change : ResourceChange) (r : Resources) → MayHappen change r → HasRoom r → HasTree r → HasNames r → HasNames (with_change change r)
+names-keep (Mounts mount) r may room tree h =
     let new = inode_is_new r.inodes mount.root room.some_inodes may.0 in
     let more = come_names r h mount.root (root_key mount.root) (root_attribute r.user) refl new (free_root r h mount.root new.free) (λ root same. ap (λ (key : Key). key.0) (sym same)) in
     record { leads = more.leads; single = more.single; roots = more.roots; links = more.links; used = more.used; opened = more.opened }
-names-keep (Comes inode directory name kind mode moment) r may room h =
+names-keep (Comes inode directory name kind mode moment) r may room tree h =
     let new = inode_is_new r.inodes inode room.some_inodes may.0 in
     let attribute = new_attribute kind mode r.user moment in
     let more = come_names r h inode (under directory name) attribute refl new may.2 (λ root same. absurd (not_root root directory name (sym same))) in
     empty_cases HasNames kind inode (with_named inode (under directory name) attribute r) (λ is. same_but_content (with_named inode (under directory name) attribute r) _ _ more) (λ is. same_but_content (with_named inode (under directory name) attribute r) _ _ more) (λ is. more)
-names-keep (Touches inode mode mtime ctime) r may room h = same_names r h inode (touched mode mtime ctime) (λ a. refl)
-names-keep (Opens number block at) r may room h = let new = block_is_new r.inodes number room.some_blocks may.0 in open_names r h number block new.free new.within may.1
-names-keep (Moves number move) r may room h = move_names r h number (moved move) may
-names-keep (Writes inode moment bytes) r may room h = same_but_content _ (slice_set r.files inode (Some bytes)) r.pipes (same_names r h inode (resized (length bytes) moment) (λ a. refl))
-names-keep (Fills inode moment after came) r may room h = same_but_content _ r.files (slice_set r.pipes inode (Some after.pipe)) (same_names r h inode (filled moment after) (λ a. filled-same moment after a (λ (b : Attribute). b.links) refl refl))
-names-keep (Unlinks own directory name inode mtime ctime) r may room h = unused_names own inode (with_unlinked inode (under directory name) mtime ctime r) (unlink_names r h inode (under directory name) mtime ctime may.0)
-names-keep (Closes own number block parting) r may room h = unused_names own block.inode (without_block number r) (close_names r h number block may.0)
-names-keep _ r may room h = record { leads = h.leads; single = h.single; roots = h.roots; links = h.links; used = h.used; opened = h.opened }
+names-keep (Touches inode mode mtime ctime) r may room tree h = same_names r h inode (touched mode mtime ctime) (λ a. refl)
+names-keep (Opens number block at) r may room tree h = let new = block_is_new r.inodes number room.some_blocks may.0 in open_names r h number block new.free new.within may.1
+names-keep (Moves number move) r may room tree h = move_names r h number (moved move) may
+names-keep (Writes inode moment bytes) r may room tree h = same_but_content _ (slice_set r.files inode (Some bytes)) r.pipes (same_names r h inode (resized (length bytes) moment) (λ a. refl))
+names-keep (Fills inode moment after came) r may room tree h = same_but_content _ r.files (slice_set r.pipes inode (Some after.pipe)) (same_names r h inode (filled moment after) (λ a. filled-same moment after a (λ (b : Attribute). b.links) refl refl))
+names-keep (Unlinks own directory name inode mtime ctime) r may room tree h = unused_names own inode (with_unlinked inode (under directory name) mtime ctime r) (unlink_names r h inode (under directory name) mtime ctime may.0)
+names-keep (Closes own number block parting) r may room tree h = unused_names own block.inode (without_block number r) (close_names r h number block may.0)
+names-keep (Renames above name directory next) r may room tree h = moved_names r h above directory name next may.1 may.3 (led_above r tree)
+names-keep _ r may room tree h = record { leads = h.leads; single = h.single; roots = h.roots; links = h.links; used = h.used; opened = h.opened }

@@ -10,7 +10,7 @@ use Rattle.qx_types.proofs.LimitLemmas.{limits_within}
 use Rattle.qx_types.specs.UserLimits.{UserLimits}
 use Rattle.qx_errno.specs.declared.Errno.{Errno}
 use Rattle.qx_errno.specs.declared.Errno.TheVariants.{EAGAIN, EINTR, EINVAL}
-use Rattle.qx_types.specs.declared.limits.TheConstants.Limits.{CALLS, INODES, PROCESSES, THREADS}
+use Rattle.qx_types.specs.declared.limits.TheConstants.Limits.{CALLS, INODES, THREADS}
 use Rattle.qx_types.specs.declared.names.Manager.{Manager}
 use Rattle.qx_types.specs.declared.names.Thread.{Thread}
 use Rattle.qx_types.specs.declared.outcome.Answer.{Answer}
@@ -422,7 +422,7 @@ module _ (part : Part) (h : WaitsOnce part) where
   call_once : (config : Configuration) (user : ℕ) (thread : Thread) (asked : Request) → Gives Gave (call config user part thread asked)
   call_once config user thread asked =
       gives_by (λ (_ : Addressed). IsReadyThread part thread.proc.num thread.tid) _ (target_by config user part.resources.mounts part.processes thread asked) _ (target-ready config user part.resources.mounts part thread asked) (λ addressed ready.
-      let sent : Sent = record { target = addressed.target; is_asked = false; bytes = bytes_of (content_of asked addressed.rest) } in
+      let sent : Sent = record { target = addressed.target; is_asked = false; bytes = bytes_of (content_of asked addressed.rest addressed.to) } in
       gives_done _ _ (row_once thread.proc.num thread.tid (queued_thread sent) (with_queued thread.tid sent) (over_changes thread.tid (queued_thread sent) addressed.target.over addressed.target.manager) ready.row ready.there (sym (ready_none ready.row.state ready.ready))))
 
   reply_once : (thread : Thread) → Gives Gave (take_reply part thread)

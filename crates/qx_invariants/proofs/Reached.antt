@@ -11,7 +11,7 @@ use Rattle.qx_machine.specs.Listings.{HasSizedNames, IsZeroFree}
 use Rattle.qx_machine.specs.Names.{names_behind, fitting, listed, listing, names_in}
 use Rattle.qx_machine.specs.Resources.{Resources}
 use Rattle.qx_invariants.specs.Holds.{HasClients, HasConnections, HasFewConnections, HasFewProcesses, HasFewServers, HasKinds, HasOwnWaiters, HasTree, HasContents, HasMounts, HasOpenWaiters, HasRoom, HasSettledPipes, HasUses, HoldsInRuns, HoldsOfParts, IsOwnedBy}
-use Rattle.qx_invariants.proofs.Keys.{all_names}
+use Rattle.qx_names.proofs.Keys.{all_names}
 use Rattle.qx_types.specs.Configuration.{Configuration, limits_of, name_bytes}
 use Rattle.qx_types.proofs.LimitLemmas.{limits_within}
 use Rattle.qx_types.specs.declared.step.Step.{Step}

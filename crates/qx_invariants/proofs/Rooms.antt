@@ -17,7 +17,7 @@ use Rattle.qx_machine.specs.Pipes.{Pipe}
 use Rattle.qx_machine.specs.Resources.{Resources, resized}
 use Rattle.qx_isolation.specs.Rows.{put_row, row_at, with_row}
 use Rattle.qx_isolation.proofs.Places.{row_at-set_cases}
-use Rattle.qx_invariants.specs.Changes.{Abandons, ResourceChange, Closes, Comes, Fills, IsMoved, MayHappen, Mounts, Moves, Notifies, Opens, Touches, Unlinks, Writes, moved, with_change, touched, without_link, with_changed, with_named, with_unlinked}
+use Rattle.qx_invariants.specs.Changes.{Abandons, ResourceChange, Closes, Comes, Fills, IsMoved, MayHappen, Mounts, Moves, Notifies, Opens, Touches, Unlinks, Writes, moved, with_change, touched, without_link, with_changed, with_named, with_unlinked, Renames}
 use Rattle.qx_invariants.specs.Holds.{HasRoom, HasUses, IsOwnedBy, IsUsed}
 use Rattle.qx_iofunc.proofs.PlaceLemmas.{put_differ}
 use Rattle.qx_invariants.proofs.Rows.{IsNew, content_cases, empty_cases, freed, block_is_new, inode_is_new, unused_cases, put_cases, with_row-was, filled-same}
@@ -151,6 +151,7 @@ parts-keep (Unlinks own directory name inode mtime ctime) r may h =
     let with_names = changed_parts r inode (without_link mtime ctime) h in
     unused_parts own inode _ (record { inodes = with_names.inodes; blocks = with_names.blocks; bounds = with_names.bounds; files = with_names.files; pipes = with_names.pipes })
 parts-keep (Closes own number block parting) r may h = unused_parts own block.inode _ (with_inodes r _ refl refl h.inodes (freed_numbered r.limits.blocks r.inodes.blocks h.blocks number) h)
+parts-keep (Renames above name directory next) r may h = record { inodes = h.inodes; blocks = h.blocks; bounds = h.bounds; files = h.files; pipes = h.pipes }
 parts-keep (Notifies events) r may h = record { inodes = h.inodes; blocks = h.blocks; bounds = h.bounds; files = h.files; pipes = h.pipes }
 parts-keep (Abandons process) r may h = record { inodes = h.inodes; blocks = h.blocks; bounds = h.bounds; files = h.files; pipes = length-map r.pipes (option_map (with_abandoned process)) ∙ h.pipes }
 

@@ -1,11 +1,11 @@
 -- What stands for a message that is not served yet: the mount to which it was sent, and the connection that its call made, whatever becomes of its process.
-use Rattle.std.proofs.Common.{◌≡◌, ◌≢◌, ◌⊎◌, inl, inr, ℕ, zero, suc, ◌+◌, ◌≤◌, List, [], ◌∷◌, ◌++◌, drop, length, length-drop, refl, sym, ap, ◌∙◌, subst, arith}
+use Rattle.std.proofs.Common.{◌≡◌, ◌≢◌, ◌⊎◌, inl, inr, ℕ, zero, suc, ◌+◌, ◌≤◌, ◌==◌, List, [], ◌∷◌, ◌++◌, drop, length, length-drop, refl, sym, ap, ◌∙◌, subst, arith}
 use Rattle.std.specs.Prelude.{Option, Some, None, Result, Ok, Err, nat_lt, option_map, slice_get, take, replicate}
 use Rattle.std.proofs.lemmas.Bool.{cases_eq}
 use Rattle.std.proofs.lemmas.Option.{same_Some}
 use Rattle.qx_types.specs.Configuration.{Configuration, limits_of, name_bytes}
 use Rattle.qx_errno.specs.declared.Errno.{Errno}
-use Rattle.qx_errno.specs.declared.Errno.TheVariants.{EAGAIN, EMFILE}
+use Rattle.qx_errno.specs.declared.Errno.TheVariants.{EAGAIN, EMFILE, EXDEV}
 use Rattle.qx_types.specs.declared.limits.TheConstants.Limits.{FIRST_CONNECTION}
 use Rattle.qx_types.specs.declared.names.Coid.{Coid}
 use Rattle.qx_types.specs.declared.outcome.Outcome.TheVariants.{Refused}
@@ -24,12 +24,12 @@ use Rattle.qx_machine.specs.declared.rows.State.{State}
 use Rattle.qx_machine.specs.declared.rows.State.TheVariants as state
 use Rattle.qx_machine.specs.declared.rows.Target.{Target}
 use Rattle.qx_machine.specs.declared.rows.ThreadRow.{ThreadRow}
-use Rattle.qx_machine.specs.Calls.{Address, Connects, Duplicates, Opens, Uses, can_serve, connection_at, free_connection, place_of, target_at, to_place}
+use Rattle.qx_machine.specs.Calls.{Address, Connects, ConnectsBoth, Duplicates, Opens, Uses, can_serve, connection_at, free_connection, place_of, target_at, to_place}
 use Rattle.qx_machine.specs.Functions.{new_coid}
 use Rattle.qx_isolation.specs.Judgements.{need, or_refused}
 use Rattle.qx_machine.specs.Processes.{Process, new_process, new_thread, queued_thread}
 use Rattle.qx_isolation.specs.Rows.{lowest_from, row_at, taken_places, with_row}
-use Rattle.qx_machine.proofs.Gives.{Gives, gives_by, gives_done, gives_error, gives_on, need-true}
+use Rattle.qx_machine.proofs.Gives.{Gives, gives_by, gives_done, gives_error, gives_on}
 use Rattle.qx_isolation.proofs.Places.{lowest_from_free}
 use Rattle.qx_invariants.proofs.Managed.{IsMounted, stays_mounted}
 use Rattle.qx_invariants.proofs.Rows.{with_row-at, with_row-other}
@@ -167,8 +167,8 @@ module _ (config : Configuration) (user : ℕ) (mounts : List MountPoint) (proce
       by names (Ok place) at = gives_done _ _ (record { number = place.number; mount = record { prefix = take place.depth names; manager = place.manager; root = place.root }; there = at place refl; manager_is = refl; root_is = refl })
       by names (Err error) at = gives_error _ _
 
-  place-addressed : (place : Resolved) (over : Over) → IsPlaced place → ((coid : Coid) → new_coid over ≡ Some coid → IsFree process coid.0) → Gives Addresses (to_place (limits_of config user).servers processes process place over prio)
-  place-addressed place over placed free =
+  place-addressed : (place : Resolved) (to : List (List ℕ)) (over : Over) → IsPlaced place → ((coid : Coid) → new_coid over ≡ Some coid → IsFree process coid.0) → Gives Addresses (to_place (limits_of config user).servers processes process place to over prio)
+  place-addressed place to over placed free =
       gives_on _ (need (can_serve (limits_of config user).servers processes process place.manager) (Refused EAGAIN)) _ (λ served is_served.
       gives_done _ _ (record { rooted = λ root at_root. subst (IsMounted mounts place.manager) (same_Some _ _ at_root) placed; free = free }))
 
@@ -179,9 +179,13 @@ module _ (config : Configuration) (user : ℕ) (mounts : List MountPoint) (proce
   addressed-gives (Opens path) =
       gives_by IsPlaced _ (or_refused (place_of config user mounts path)) _ (place-gives path) (λ place placed.
       gives_by (IsFree process) _ (free_connection (limits_of config user).connections process) _ (free-gives (limits_of config user).connections) (λ number free.
-      place-addressed place (New (record { 0 = number })) placed (λ coid over. subst (λ (c : Coid). IsFree process c.0) (same_Some _ _ over) free)))
+      place-addressed place [] (New (record { 0 = number })) placed (λ coid over. subst (λ (c : Coid). IsFree process c.0) (same_Some _ _ over) free)))
   addressed-gives (Connects path) =
-      gives_by IsPlaced _ (or_refused (place_of config user mounts path)) _ (place-gives path) (λ place placed. place-addressed place Side placed (λ coid over. absurd (cc)))
+      gives_by IsPlaced _ (or_refused (place_of config user mounts path)) _ (place-gives path) (λ place placed. place-addressed place [] Side placed (λ coid over. absurd (cc)))
+  addressed-gives (ConnectsBoth path to) =
+      gives_by IsPlaced _ (or_refused (place_of config user mounts path)) _ (place-gives path) (λ place placed.
+      gives_on _ (or_refused (place_of config user mounts to)) _ (λ other is_other.
+      gives_on _ (need (place.root == other.root) (Refused EXDEV)) _ (λ same is_same. place-addressed place other.rest Side placed (λ coid over. absurd (cc)))))
   addressed-gives (Uses coid) =
       gives_on _ (connection_at coid process) _ (λ connection there.
       gives_done _ _ (record { rooted = λ root at_root. absurd (cc); free = λ other over. absurd (cc) }))

@@ -26,7 +26,7 @@ use Rattle.qx_invariants.specs.Changes.{IsDirectoryAt, ResourceChange, MayHappen
 use Rattle.qx_invariants.specs.Holds.{HasContents, HasLimits, HasMade, HasMounts, HasNames, HasOpenWaiters, HasRoom, HasSettledPipes, HasTree, HasUses, IsOwnedBy, calls_of, file_of, in_inode}
 use Rattle.qx_invariants.proofs.Contents.{contents-keep, settled-keep, limits-keep}
 use Rattle.qx_invariants.proofs.Events.{HasEvents, events-keep}
-use Rattle.qx_invariants.proofs.Keys.{insert-at, insert-cases, not_root}
+use Rattle.qx_names.proofs.Keys.{insert-at, insert-cases, not_root}
 use Rattle.qx_invariants.proofs.Made.{made-keeps}
 use Rattle.qx_invariants.proofs.Named.{names-keep}
 use Rattle.qx_invariants.proofs.Rooms.{room-keeps, uses-keep}
@@ -154,7 +154,7 @@ pub record Holds (r : Resources) : Type 0 where
   pub made : HasMade r
 
 pub holds-keep : (change : ResourceChange) (r : Resources) → MayHappen change r → Holds r → Holds (with_change change r)
-holds-keep change r may h = record { room = room-keeps change r may h.room; contents = contents-keep change r may h.room h.contents; settled = settled-keep change r may h.settled; names = names-keep change r may h.room h.names; tree = tree-keeps change r may h.room h.names h.tree; waiters = astray-keeps change r may h.room h.contents h.waiters; mounts = mounts-keep change r may h.room h.names h.mounts; limits = limits-keep change r may h.limits; events = events-keep change r may h.events; uses = uses-keep change r may h.room h.uses; made = made-keeps change r may h.room h.made }
+holds-keep change r may h = record { room = room-keeps change r may h.room; contents = contents-keep change r may h.room h.contents; settled = settled-keep change r may h.settled; names = names-keep change r may h.room h.tree h.names; tree = tree-keeps change r may h.room h.names h.tree; waiters = astray-keeps change r may h.room h.contents h.waiters; mounts = mounts-keep change r may h.room h.tree h.names h.mounts; limits = limits-keep change r may h.limits; events = events-keep change r may h.events; uses = uses-keep change r may h.room h.uses; made = made-keeps change r may h.room h.made }
 
 pub boot_holds : (limits : UserLimits) → AreLimits limits → (user : ℕ) (name : List ℕ) → Holds (new_resources limits user name)
 boot_holds limits in_range user name = record {

@@ -1,5 +1,5 @@
 -- All that can happen to a user's resources: nothing but these changes, one after another.
-use Rattle.std.specs.Prelude.{◌+◌, ◌-◌, ◌≡◌, ◌≤◌, ◌<◌, ◌⊎◌, ◌++◌, length, map, option_map, slice_set, ℕ, Bool, true, List, [], ◌∷◌, Option, Some, None, Ok, is_some}
+use Rattle.std.specs.Prelude.{◌+◌, ◌-◌, ◌≡◌, ◌≤◌, ◌<◌, ◌⊎◌, ◌++◌, length, map, option_map, slice_set, ℕ, Bool, true, List, [], ◌∷◌, Option, Some, None, Ok, is_some, false}
 use Rattle.std.specs.List.{count_by}
 use Rattle.std.specs.FinMap.{get, insert, remove}
 use Rattle.qx_device.specs.declared.TheConstants.{STATE}
@@ -17,7 +17,8 @@ use Rattle.qx_machine.specs.Defaults.{is_own, pipe_in, without_block, without_un
 use Rattle.qx_machine.specs.Events.{Events, event_count}
 use Rattle.qx_machine.specs.Inodes.{block_number, inode_number, moved_to, new_attribute}
 use Rattle.qx_machine.specs.Mounting.{with_mount}
-use Rattle.qx_machine.specs.Names.{Key, is_directory, names_in, root_key, under}
+use Rattle.qx_machine.specs.Names.{Key, is_below, is_directory, names_in, root_key, under}
+use Rattle.qx_machine.specs.Names as names
 use Rattle.qx_machine.specs.PipeManager.{deed_of_pipe}
 use Rattle.qx_machine.specs.Pipes.{PipeAfter, Pipe, nobody_answered, removed, settle}
 use Rattle.qx_machine.specs.RamManager.{with_bytes}
@@ -60,6 +61,8 @@ pub data ResourceChange : Type 0 where
   Fills : (inode moment : ℕ) (after : PipeAfter WaitingCall) (came : List WaitingCall) → ResourceChange
   -- a name goes, and what it named, unless that is open
   Unlinks : (own : Kind) (directory : Key) (name : List ℕ) (inode mtime ctime : ℕ) → ResourceChange
+  -- what begins with a path in a directory begins with another
+  Renames : (above : Key) (name : List ℕ) (directory : Key) (next : List ℕ) → ResourceChange
   -- an open control block goes, and what it had open, unless that is named or open still
   Closes : (own : Kind) (number : ℕ) (block : Ocb) (parting : Parting) → ResourceChange
   -- events are armed or go, or pulses come or go
@@ -112,6 +115,7 @@ with_change (Moves number move) r = with_moved number (moved move) r
 with_change (Writes inode moment bytes) r = with_bytes inode moment bytes r
 with_change (Fills inode moment after came) r = (deed_of_pipe r inode moment after).state
 with_change (Unlinks own directory name inode mtime ctime) r = without_unused own inode (with_unlinked inode (under directory name) mtime ctime r)
+with_change (Renames above name directory next) r = record r { names = names.moved r.names (under above name) (under directory next) }
 with_change (Closes own number block parting) r = without_unused own block.inode (without_block number r)
 with_change (Notifies events) r = record r { events = events }
 with_change (Abandons process) r = record r { pipes = map (option_map (with_abandoned process)) r.pipes }
@@ -196,7 +200,7 @@ MayPart WithLast block = block.uses ≤ 1
 MayPart WithClient block = Unit {0}
 
 -- a mount comes where the user may have one more; an inode comes under the lowest free number, with a name that is a component and not there yet, into a directory; a name goes that leads to
--- an inode in which no names are; only what is there is opened, written, closed or unnamed, and opened by a path; one connection has what comes to be open, and
+-- an inode in which no names are; a path gets a name that is a component and not there yet, in a directory of the same mount that is not below it; only what is there is opened, written, closed or unnamed, and opened by a path; one connection has what comes to be open, and
 -- what is open stays so while another has it, unless its client is gone; nobody waits over what is closed; and events do not come to be too
 -- many
 abbrev pub MayHappen : ResourceChange → Resources → Type 0
@@ -208,6 +212,7 @@ MayHappen (Moves number move) r = (block : Ocb) → row_at r.inodes.blocks numbe
 MayHappen (Writes inode moment bytes) r = IsRewritten r inode bytes
 MayHappen (Fills inode moment after came) r = IsDone r inode after came
 MayHappen (Unlinks own directory name inode mtime ctime) r = (get r.names (under directory name) ≡ Some inode) × (names_in r.names inode ≡ []) × IsOwnInode own r inode
+MayHappen (Renames above name directory next) r = IsDirectoryAt r directory × (get r.names (under directory next) ≡ None) × (is_component next ≡ true) × (is_below (under above name) directory.0 (next ∷ directory.1) ≡ false) × (above.0 ≡ directory.0)
 MayHappen (Closes own number block parting) r = (row_at r.inodes.blocks number ≡ Some block) × IsOwnInode own r block.inode × (count_waiting_in (is_over number) (pipe_in own r block.inode) ≡ 0) × MayPart parting block
 MayHappen (Notifies events) r = AreKept r.limits.events r.events events
 MayHappen (Abandons process) r = Unit {0}

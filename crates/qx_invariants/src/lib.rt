@@ -1,6 +1,6 @@
 //! What holds in every world that a run of the written machine reaches.
 //!
-//! `laws.rt` has the laws. `Changes.antt` names the eleven kinds of change by which a user's resources become what they
+//! `laws.rt` has the laws. `Changes.antt` names the twelve kinds of change by which a user's resources become what they
 //! are, what each makes of them and when it may happen; `Holds.antt` says what holds, `Waits.antt` counts calls that
 //! wait.
 //!

@@ -6,3 +6,5 @@ pub mod OpenLemmas
 pub mod PlaceLemmas
 -- names, inodes and the bytes of files, as each changes
 pub mod StoreLemmas
+-- what a rename comes to
+pub mod RenameLemmas

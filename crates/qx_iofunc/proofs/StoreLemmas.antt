@@ -14,7 +14,7 @@ use Rattle.qx_iofunc.proofs.PlaceLemmas.{Differ, by_place, lowest_within, put_at
 use Rattle.qx_iofunc.specs.Fits.{AreSized, Fits, IsLinked, NamesFit, file_size, is_file}
 use Rattle.qx_iofunc.specs.inner.Fits.{NamesFitBut}
 use Rattle.qx_iofunc.specs.Store.{Stored, block_gone, boot_store, files_without, unused_gone, with_mount_root, with_stored}
-use Rattle.qx_iofunc.specs.inner.Store.{files_with, with_made, with_resized, with_truncated}
+use Rattle.qx_iofunc.specs.inner.Store.{files_with, name_gone, name_taken, with_made, with_resized, with_truncated}
 use Rattle.qx_machine.proofs.Gives.{Gives, gives_done, gives_on, gives-value}
 use Rattle.qx_isolation.proofs.Places.{lowest_from_free}
 use Rattle.qx_machine.specs.declared.rows.Attribute.{Attribute}
@@ -340,23 +340,21 @@ pub closed_fits : (own : Kind) (number : ℕ) (block : Ocb) (s : Stored) → row
 closed_fits own number block s is mine fits =
     gone_fits own block.inode (block_gone number s) (of_names.closed_but s.inodes s.names number block is fits.named) mine fits.sized fits.room
 
--- a name goes, and the times of its directory change
-abbrev name_gone : ℕ → Key → ℕ → Attribute → Attribute → ℕ → Stored → Stored
-name_gone parent key inode was attribute moment s = record s {
-  inodes = with_attribute (with_attribute s.inodes parent (with_entries_changed moment was)) inode (unnamed moment attribute);
-  names = remove s.names key;
-}
+-- an inode loses its name and goes, unless it is open
+pub taken_fits : (own : Kind) (key : Key) (inode : ℕ) (attribute : Attribute) (moment : ℕ) (s : Stored) → inode < length s.inodes.attributes → bytes_at s.files inode ≡ file_size (Some attribute) → is_own own attribute.kind ≡ true
+    → ((other : Key) → get (remove s.names key) other ≡ Some inode → ⊥) → StoreFits s → StoreFits (name_taken own key inode attribute moment s)
+taken_fits own key inode attribute moment s within bytes mine gone fits =
+    let at = set_at s.inodes.attributes inode (unnamed moment attribute) within in
+    let sized = sized_but s.inodes (with_attribute s.inodes inode (unnamed moment attribute)) s.files s.files inode (set_differ s.inodes.attributes inode (Some (unnamed moment attribute))) (same_differ s.files inode) (bytes ∙ ap file_size (sym at)) fits.sized in
+    gone_fits own inode (name_gone key inode attribute moment s) (of_names.unnamed_but s.inodes s.names key inode (unnamed moment attribute) gone fits.named)
+    (record { attribute = unnamed moment attribute; there = at; mine = mine }) sized fits.room
 
--- and what it named goes, unless that is open
+-- the times of a directory change, and a name in it goes
 pub unlinked_fits : (own : Kind) (parent : ℕ) (key : Key) (inode : ℕ) (was attribute : Attribute) (moment : ℕ) (s : Stored) → row_at s.inodes.attributes parent ≡ Some was → row_at s.inodes.attributes inode ≡ Some attribute
-    → is_own own attribute.kind ≡ true → ((other : Key) → get (remove s.names key) other ≡ Some inode → ⊥) → StoreFits s → StoreFits (unused_gone own inode (name_gone parent key inode was attribute moment s))
+    → is_own own attribute.kind ≡ true → ((other : Key) → get (remove s.names key) other ≡ Some inode → ⊥) → StoreFits s
+    → StoreFits (name_taken own key inode attribute moment (record s { inodes = with_attribute s.inodes parent (with_entries_changed moment was) }))
 unlinked_fits own parent key inode was attribute moment s parent_is is mine gone fits =
-    let before : Inodes = with_attribute s.inodes parent (with_entries_changed moment was) in
-    let first = kept_fits s.inodes s.names s.files parent was (with_entries_changed moment was) parent_is refl refl fits in
     let there = within_table s.inodes.attributes inode attribute is in
     let same = length-set s.inodes.attributes parent (Some (with_entries_changed moment was)) in
-    let at = set_at before.attributes inode (unnamed moment attribute) (omega (arith, there, same)) in
-    let sized = sized_but before (with_attribute before inode (unnamed moment attribute)) s.files s.files inode (set_differ before.attributes inode (Some (unnamed moment attribute))) (same_differ s.files inode)
-    (fits.sized inode ∙ (ap file_size is ∙ ap file_size (sym at))) first.sized in
-    gone_fits own inode (name_gone parent key inode was attribute moment s) (of_names.unnamed_but before s.names key inode (unnamed moment attribute) gone first.named)
-    (record { attribute = unnamed moment attribute; there = at; mine = mine }) sized fits.room
+    taken_fits own key inode attribute moment (record s { inodes = with_attribute s.inodes parent (with_entries_changed moment was) }) (omega (arith, there, same)) (fits.sized inode ∙ ap file_size is) mine gone
+    (kept_fits s.inodes s.names s.files parent was (with_entries_changed moment was) parent_is refl refl fits)

@@ -1,8 +1,8 @@
 //! What may be opened and made, and how attributes change with the entries of a directory.
 
-ghost use Rattle.std.specs.Prelude.{◌≡◌};
+ghost use Rattle.std.specs.Prelude.{◌≡◌, ◌==◌, length};
 ghost use Rattle.qx_iofunc.specs.Makes.{may_make, may_open};
-ghost use Rattle.qx_iofunc.specs.inner.Makes.{may_make_directory};
+ghost use Rattle.qx_iofunc.specs.inner.Makes.{may_make_directory, may_replace};
 ghost use Rattle.qx_machine.specs.Inodes as of_inodes;
 ghost use Rattle.qx_machine.specs.Attributes as attributes;
 ghost use Rattle.qx_machine.specs.Defaults as machine;
@@ -11,8 +11,9 @@ use crate::found::New;
 use bitflags::Flags;
 use qx_attr::{Inodes, check_access};
 use qx_machine::{Access, Attribute, Kind};
-use qx_names::Spot;
+use qx_names::{Names, Spot};
 use qx_types::{Errno, OFlags, User};
+use qx_wire::Rest;
 
 /// Whether an inode of that kind is one of a manager with directories and inodes of its own kind.
 pub fn is_own(own: Kind, kind: Kind) -> bool
@@ -77,6 +78,46 @@ pub fn may_make_directory(inodes: &Inodes, user: User, at: &Spot<'_>) -> Result<
         inode: inodes.inode_number()?,
         parent,
     })
+}
+
+/// Whether what has a name already, if anything has, may lose it to an inode of this kind.
+pub fn may_replace(
+    inodes: &Inodes,
+    names: &Names,
+    own: Kind,
+    kind: Kind,
+    there: Option<u32>,
+) -> Result<(), Errno>
+    ensures may { result ≡ may_replace own kind inodes.now.inodes names.now there }
+{
+    let Some(there) = there else {
+        return Ok(());
+    };
+    let Some(target) = inodes.attr(there) else {
+        return Err(Errno::ENOENT);
+    };
+    let onto = target.attribute.kind == Kind::Directory;
+    let moves = kind == Kind::Directory;
+    if moves && !onto {
+        return Err(Errno::ENOTDIR);
+    }
+    if onto && !moves {
+        return Err(Errno::EISDIR);
+    }
+    if !names.is_empty(there) {
+        return Err(Errno::ENOTEMPTY);
+    }
+    if !is_own(own, target.attribute.kind) {
+        return Err(Errno::ENOENT);
+    }
+    Ok(())
+}
+
+/// Whether a path leads to its mount's root.
+pub fn is_root(rest: &Rest<'_>) -> bool
+    ensures { result ≡ (length rest.now == 0) }
+{
+    rest.components().next().is_none()
 }
 
 /// The attribute of a directory in which the user may make and remove names, else EACCES.

@@ -5,7 +5,8 @@
 //!   mount, and what a manager of files or pipes changes in an inode
 //! - `tables.rt`: the same tables, which need not stand together between the steps of one message
 //! - `opening.rt`: an open in two phases, `lookup` and `open`
-//! - `paths.rt`, `blocks.rt`: the other messages to a path; status, listing and mode of what is open, a dup and a close
+//! - `paths.rt`, `renaming.rt`, `blocks.rt`: the other messages to a path; a rename; status, listing and mode of what is open,
+//!   a dup and a close
 //! - `entries.rt`: what may be opened and made, and how attributes change with the entries of a directory
 //! - `found.rt`: what a lookup found, what an open gave, and what a close took away
 //! - `laws.rt`: what is removed had no names in it; the sum of the sizes
@@ -20,6 +21,7 @@ pub mod found;
 pub mod laws;
 pub mod opening;
 pub mod paths;
+pub mod renaming;
 pub mod store;
 mod tables;
 

@@ -6,7 +6,7 @@ ghost use Rattle.qx_iofunc.specs.Store.{with_stored};
 ghost use Rattle.qx_machine.specs.Defaults as machine;
 ghost use Rattle.qx_machine.specs.Resources.{Resources};
 
-use crate::entries::{changed, is_own, may_make_directory, unnamed, writable};
+use crate::entries::{changed, is_own, may_make_directory, writable};
 use crate::store::Store;
 use qx_attr::Status;
 use qx_machine::Kind;
@@ -96,15 +96,14 @@ impl Store {
         let Some(attr) = self.tables.inodes.attr(inode) else {
             return Err(Errno::ENOENT);
         };
-        if !is_own(own, attr.attribute.kind) {
+        let attribute = attr.attribute;
+        if !is_own(own, attribute.kind) {
             return Err(Errno::ENOENT);
         }
-        let unnamed = unnamed(moment, attr.attribute);
         self.tables
             .inodes
             .set_attribute(at.parent, changed(moment, parent));
-        self.tables.inodes.set_attribute(inode, unnamed);
-        self.tables.names.remove(at.parent, at.name);
-        Ok(self.tables.free(own, inode).then_some(inode))
+        let is_gone = self.tables.take_name(own, at, inode, attribute, moment);
+        Ok(is_gone.then_some(inode))
     }
 }

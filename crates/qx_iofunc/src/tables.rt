@@ -1,14 +1,16 @@
-ghost use Rattle.std.specs.Prelude.{◌≡◌, ◌-◌, ◌<◌, None, Ok, IsSome, OnOk, OnErr};
-ghost use Rattle.std.specs.FinMap.{get};
+ghost use Rattle.std.specs.Prelude.{◌≡◌, ◌≢◌, ◌-◌, ◌<◌, ℕ, [], None, Some, Ok, IsSome, OnOk, OnErr, false};
+ghost use Rattle.std.specs.FinMap.{get, remove};
 ghost use Rattle.qx_iofunc.specs.Store.{blocks_gone, unused_gone};
-ghost use Rattle.qx_iofunc.specs.inner.Store.{blocks_truncated, files_with, with_made, with_resized, with_truncated};
-ghost use Rattle.qx_machine.specs.Inodes.{inode_number, is_unused};
-ghost use Rattle.qx_machine.specs.Names.{under};
+ghost use Rattle.qx_iofunc.specs.Fits.{Fits};
+ghost use Rattle.qx_iofunc.specs.inner.Store.{CanMove, IsReplaceable, blocks_truncated, files_with, name_free, name_taken, with_made, with_resized, with_truncated};
+ghost use Rattle.qx_machine.specs.Defaults as machine;
+ghost use Rattle.qx_machine.specs.Inodes.{inode_number, is_unused, with_attribute};
+ghost use Rattle.qx_machine.specs.Names.{is_same_key, names_in, under};
 ghost use Rattle.qx_isolation.specs.Rows.{row_at};
 ghost use Rattle.qx_names.specs.Paths.{HasPath, HasNoPath, path_of};
 ghost use Rattle.qx_names.specs.Spots.{spot_of};
 
-use crate::entries::{changed, new_attribute};
+use crate::entries::{changed, new_attribute, unnamed};
 use crate::found::New;
 use qx_attr::Inodes;
 use qx_files::Files;
@@ -75,6 +77,52 @@ impl Tables {
             self.files.add(new.inode);
         }
         Ok(())
+    }
+
+    /// An inode loses its name and, unless it is open, goes; tells whether it went.
+    pub fn take_name(
+        &mut self,
+        own: Kind,
+        at: Spot<'_>,
+        inode: u32,
+        attribute: Attribute,
+        moment: u64,
+    ) -> bool
+        requires there { IsSome (row_at self.old.stored.inodes.attributes inode) }
+        requires directory { HasPath self.old.stored.names at.parent }
+        requires named { get self.old.stored.names (under (path_of self.old.stored.names at.parent) at.name.now) ≡ Some inode }
+        requires empty { names_in self.old.stored.names inode ≡ [] }
+        ensures gone { result ≡ is_unused (with_attribute self.old.stored.inodes inode (machine.unnamed moment attribute)) inode (row_at (with_attribute self.old.stored.inodes inode (machine.unnamed moment attribute)).attributes inode) }
+        ensures taken { self.new.stored ≡ name_taken own (under (path_of self.old.stored.names at.entry.parent) at.entry.name.now) inode attribute moment self.old.stored }
+        ensures unnamed { HasNoPath (remove self.old.stored.names (under (path_of self.old.stored.names at.entry.parent) at.entry.name.now)) inode }
+        ensures others { (other : ℕ) → HasPath self.old.stored.names other → path_of self.old.stored.names other ≢ under (path_of self.old.stored.names at.entry.parent) at.entry.name.now → HasPath (remove self.old.stored.names (under (path_of self.old.stored.names at.entry.parent) at.entry.name.now)) other × (path_of (remove self.old.stored.names (under (path_of self.old.stored.names at.entry.parent) at.entry.name.now)) other ≡ path_of self.old.stored.names other) }
+    {
+        self.inodes.set_attribute(inode, unnamed(moment, attribute));
+        self.names.remove(at.parent, at.name);
+        self.free(own, inode)
+    }
+
+    /// What has the second name already, a file or an empty directory, if anything has it, loses it as by `take_name`, so that
+    /// the inode that has the first name can get the second.
+    pub fn free_name(&mut self, old: &Spot<'_>, inode: u32, new: Spot<'_>, moment: u64)
+        requires directory { HasPath self.old.stored.names old.now.parent }
+        requires there { get self.old.stored.names (spot_of self.old.stored.names old.now).key ≡ Some inode }
+        requires target { HasPath self.old.stored.names new.parent }
+        requires leads { new.inode ≡ get self.old.stored.names (under (path_of self.old.stored.names new.parent) new.name.now) }
+        requires differ { is_same_key (spot_of self.old.stored.names old.now).key (under (path_of self.old.stored.names new.parent) new.name.now) ≡ false }
+        requires replaceable { IsReplaceable self.old.stored.inodes self.old.stored.names new.inode }
+        ensures freed { self.new.stored ≡ name_free (under (path_of self.old.stored.names new.entry.parent) new.entry.name.now) new.entry.inode moment self.old.stored }
+        ensures moves { CanMove self.old.stored.names self.new.stored.names old.now inode new.entry }
+        ensures fits { Fits self.old.stored.inodes self.old.stored.names self.old.stored.files → Fits self.new.stored.inodes self.new.stored.names self.new.stored.files }
+    {
+        let Some(there) = new.inode else {
+            return;
+        };
+        let Some(attr) = self.inodes.attr(there) else {
+            return;
+        };
+        let attribute = attr.attribute;
+        self.take_name(Kind::File, new, there, attribute, moment);
     }
 
     /// Frees an inode that nothing names and nothing has open, with the bytes of a file where a manager keeps such in its

@@ -1,11 +1,12 @@
 -- Who waits in a pipe afterwards, or is answered, waited there before or made the call: a property that all of those have, these have.
 use Rattle.std.proofs.Common.{◌≡◌, inl, inr, ℕ, ◌==◌, List, [], ◌∷◌, ◌++◌, length, map, Bool, true, false, refl, sym, subst}
 use Rattle.std.specs.Prelude.{ℤ, ◌&&◌, ◌||◌, Option, Some, None, Result, Ok, Err, filter, is_some, nat_le, not, position, slice_set, if◌then◌else◌}
+use Rattle.std.specs.FinMap.{remove}
 use Rattle.std.specs.List.{AllByRecursion}
 use Rattle.std.proofs.lemmas.Bool.{cond_both}
 use Rattle.std.proofs.lemmas.Option.{same_Some}
 use Rattle.qx_errno.specs.declared.Errno.{Errno}
-use Rattle.qx_errno.specs.declared.Errno.TheVariants.{EACCES, EBADF, EBUSY, EEXIST, EINVAL, EISDIR, ENOENT, ENOTEMPTY, EPIPE}
+use Rattle.qx_errno.specs.declared.Errno.TheVariants.{EACCES, EBADF, EBUSY, EEXIST, EINVAL, EISDIR, ENOENT, ENOTDIR, ENOTEMPTY, EPIPE}
 use Rattle.qx_devices.specs.declared.Device.{Device}
 use Rattle.qx_types.specs.declared.fields.NotifyAction.{NotifyAction}
 use Rattle.qx_types.specs.declared.fields.Whence.{Whence}
@@ -39,14 +40,14 @@ use Rattle.qx_machine.specs.declared.rows.Sides.{Sides}
 use Rattle.qx_machine.specs.declared.rows.Target.{Target}
 use Rattle.qx_machine.specs.declared.rows.WaitingCall.{WaitingCall}
 use Rattle.qx_machine.specs.declared.rows.Wish.{Wish}
-use Rattle.qx_machine.specs.Defaults.{MadeInode, allows, chmod_block, close_last, close_ocb, dup_open, free_block, is_own, list_block, made_at, make_directory, open_spot, open_existing, open_missing, open_path, opened, own_block, pipe_in, stat_block, stat_path, unlink_path, without_block, without_name, without_unused, writable}
+use Rattle.qx_machine.specs.Defaults.{MadeInode, allows, chmod_block, cleared, close_last, close_ocb, dup_open, free_block, is_own, list_block, made_at, make_directory, open_spot, open_existing, open_missing, open_path, opened, own_block, pipe_in, rename_path, rename_to, stat_block, stat_path, unlink_path, unnamed, with_both_changed, without_block, without_name, without_unused, writable}
 use Rattle.qx_machine.specs.Events.{notified}
 use Rattle.qx_machine.specs.Files.{base, moved_by}
 use Rattle.qx_machine.specs.Functions.{Deed, Reply, message_deed, new_dup, new_open, reply_alone, side_root}
-use Rattle.qx_machine.specs.Inodes.{block_number, blocks_of_client, dup_block, has, is_shared, is_unused, new_attribute, new_inode, open_block, reads, writes}
+use Rattle.qx_machine.specs.Inodes.{block_number, blocks_of_client, dup_block, has, is_shared, is_unused, new_attribute, new_inode, open_block, reads, with_attribute, writes}
 use Rattle.qx_isolation.specs.Judgements.{found, need}
 use Rattle.qx_machine.specs.Managers.{close_all, close_client, manager_deed, or_unreplied, own_kind, pipe_connect, pipe_io}
-use Rattle.qx_machine.specs.Names.{Spot, is_directory, is_empty, names_in, spot}
+use Rattle.qx_machine.specs.Names.{Spot, is_below, is_directory, is_empty, is_same_key, names_in, spot}
 use Rattle.qx_machine.specs.Notification.{conditions_at, event_of, notify_block}
 use Rattle.qx_machine.specs.Performing.{context_of, deed_of, dup_of, opened_by, read_message, works_over}
 use Rattle.qx_machine.specs.PipeManager.{cancel_call, read_pipe, released, seek_pipe, deed_of_pipe, write_pipe}
@@ -369,6 +370,31 @@ module _ (K : Pipes → Type 0) where
         gives_on _ (found (row_at r.inodes.attributes inode) ENOENT) _ (λ attribute has.
         gives_on _ (need (is_own own attribute.kind) ENOENT) _ (λ mine is_mine. gives_done _ _ (reply-quiet _ _ _ _ (unused-keeps inode (without_name at parent inode attribute moment r) h))))))))
 
+    cleared-gives : (attribute : Attribute) (to : Spot) (there : Option ℕ) (moment : ℕ) (r : Resources) → K r.pipes → Gives (λ (s : Resources). K s.pipes) (cleared own attribute to there moment r)
+    cleared-gives attribute to None moment r h = gives_done _ _ h
+    cleared-gives attribute to (Some there) moment r h =
+        gives_on _ (found (row_at r.inodes.attributes there) ENOENT) _ (λ target is.
+        gives_on _ (need (is_directory target.kind || not (is_directory attribute.kind)) ENOTDIR) _ (λ onto is_onto.
+        gives_on _ (need (is_directory attribute.kind || not (is_directory target.kind)) EISDIR) _ (λ no_directory is_none.
+        gives_on _ (need (is_empty (names_in r.names there)) ENOTEMPTY) _ (λ empty is_empty.
+        gives_on _ (need (is_own own target.kind) ENOENT) _ (λ mine is_mine. gives_done _ _ (unused-keeps there (record r { inodes = with_attribute r.inodes there (unnamed moment target); names = remove r.names to.key }) h))))))
+
+    rename_to-gives : (r : Resources) (from : Spot) (inode : ℕ) (parent : Attribute) (to : Spot) (other : Attribute) (moment : ℕ) → K r.pipes → Gives (Quiet K) (rename_to own r from inode parent to other moment)
+    rename_to-gives r from inode parent to other moment h =
+        gives_on _ (found (row_at r.inodes.attributes inode) ENOENT) _ (λ attribute has.
+        gives_on _ (need (not (is_below from.key to.key.0 to.key.1)) EINVAL) _ (λ outside is_outside.
+        gives_by (λ (s : Resources). K s.pipes) _ (cleared own attribute to to.inode moment (with_both_changed from parent to other moment r)) _ (cleared-gives attribute to to.inode moment _ h) (λ free kept. gives_done _ _ (reply-quiet _ _ _ _ kept))))
+
+    rename-gives : (r : Resources) (root : ℕ) (old new : List (List ℕ)) (moment : ℕ) → K r.pipes → Gives (Quiet K) (rename_path own r root old new moment)
+    rename-gives r root old new moment h =
+        gives_on _ (need (not (length old == 0) && not (length new == 0)) EBUSY) _ (λ named is_named.
+        gives_on _ (spot r.inodes r.names r.user root old EBUSY) _ (λ from is_from.
+        gives_on _ (found from.inode ENOENT) _ (λ inode there.
+        gives_on _ (spot r.inodes r.names r.user root new EBUSY) _ (λ to is_to.
+        gives_on _ (writable r.inodes r.user from.parent) _ (λ parent is_parent.
+        gives_on _ (writable r.inodes r.user to.parent) _ (λ other is_other.
+        gives_if _ (is_same_key from.key to.key) _ _ (gives_done _ _ (reply-quiet _ _ _ _ h)) (rename_to-gives r from inode parent to other moment h)))))))
+
   -- ---- what tells, and what moves
 
   stat_path-gives : (r : Resources) (root : ℕ) (rest : List (List ℕ)) (moment : ℕ) → K r.pipes → Gives (Quiet K) (stat_path r root rest moment)
@@ -482,6 +508,7 @@ module _ (resources : Resources) (context : Context) where
   ram-gives (msg.Stat rest) = gives_on _ (side_root context.target) _ (λ root is. stat_path-gives Same resources root rest context.moment refl)
   ram-gives (msg.Unlink rest) = gives_on _ (side_root context.target) _ (λ root is. unlink-gives Same File (λ inode s h. h) resources root rest context.moment refl)
   ram-gives (msg.Mknod mode rest) = gives_on _ (side_root context.target) _ (λ root is. directory-gives Same resources root mode rest context.moment refl)
+  ram-gives (msg.Rename from to) = gives_on _ (side_root context.target) _ (λ root is. rename-gives Same File (λ inode s h. h) resources root from to context.moment refl)
   ram-gives (msg.Read count) = gives_on _ context.opened _ (λ over is. read_file-gives Same resources over count refl)
   ram-gives (msg.Write bytes) = gives_on _ context.opened _ (λ over is. write_file-gives Same resources over bytes refl)
   ram-gives msg.Close = gives_on _ context.opened _ (λ over is.
@@ -537,6 +564,7 @@ module _ (P : WaitingCall → Type 0) (caller : Caller) where
     pipe-gives own (msg.Stat rest) = gives_on _ (side_root context.target) _ (λ root is. quiet-gives _ (stat_path-gives (InPipes P) resources root rest context.moment h))
     pipe-gives own (msg.Unlink rest) = gives_on _ (side_root context.target) _ (λ root is. quiet-gives _ (unlink-gives (InPipes P) own (content-keeps P own) resources root rest context.moment h))
     pipe-gives own (msg.Mknod mode rest) = gives_error _ _
+    pipe-gives own (msg.Rename from to) = gives_error _ _
     pipe-gives own (msg.Read count) = gives_on _ context.opened _ (λ over is. read-own over count (callers over is))
     pipe-gives own (msg.Write bytes) = gives_on _ context.opened _ (λ over is. write-own over bytes (callers over is))
     pipe-gives own msg.Close = gives_on _ context.opened _ (λ over is.

@@ -75,7 +75,7 @@ call config user part thread request = do
   addressed ← target_by config user part.resources.mounts part.processes thread request
   Ok (record {
     outcome = outcome.Sent;
-    part = with_process thread.proc.num (with_queued thread.tid (record { target = addressed.target; is_asked = false; bytes = bytes_of (content_of request addressed.rest) })) part;
+    part = with_process thread.proc.num (with_queued thread.tid (record { target = addressed.target; is_asked = false; bytes = bytes_of (content_of request addressed.rest addressed.to) })) part;
     changes = Put addressed.target.manager (item.Message thread.proc.num thread.tid) addressed.target.prio.0 ∷ [];
   })
 

@@ -4,7 +4,7 @@
 use Rattle.std.specs.Prelude.{ℕ, ◌&&◌, ◌||◌, ◌==◌, not, Bool, List, [], Option, Some, None, Result, Ok, is_some, length, if◌then◌else◌}
 use Rattle.std.specs.FinMap.{insert, remove}
 use Rattle.qx_errno.specs.declared.Errno.{Errno}
-use Rattle.qx_errno.specs.declared.Errno.TheVariants.{EACCES, EBADF, EBUSY, EEXIST, EISDIR, ENOENT, ENOTDIR, ENOTEMPTY, EPERM}
+use Rattle.qx_errno.specs.declared.Errno.TheVariants.{EACCES, EBADF, EBUSY, EEXIST, EISDIR, ENOENT, ENOTDIR, ENOTEMPTY, EPERM, EINVAL}
 use Rattle.qx_types.specs.declared.flags.OFlags.{OFlags}
 use Rattle.qx_types.specs.declared.flags.TheConstants.OFlags.{CREAT, EXCL}
 use Rattle.qx_machine.specs.declared.rows.Access.TheVariants.{Read, Write}
@@ -23,7 +23,7 @@ use Rattle.qx_machine.specs.Events.{disarmed}
 use Rattle.qx_machine.specs.Functions.{Deed, reply_alone}
 use Rattle.qx_machine.specs.Inodes.{Inodes, block_number, close_block, dup_block, free_inode, has, is_shared, is_unused, may, new_attribute, new_inode, open_block, reads, with_attribute, without_use, writes}
 use Rattle.qx_isolation.specs.Judgements.{◌>>=◌, found, need}
-use Rattle.qx_machine.specs.Names.{Spot, inode_at, is_directory, is_empty, is_same_kind, listed, listing, names_in, spot}
+use Rattle.qx_machine.specs.Names.{Spot, inode_at, is_directory, is_empty, is_same_kind, listed, listing, names_in, spot, is_below, is_same_key, moved}
 use Rattle.qx_machine.specs.PipeManager.{released}
 use Rattle.qx_machine.specs.Pipes as pipes
 use Rattle.qx_machine.specs.RamManager.{emptied}
@@ -154,6 +154,44 @@ unlink_path own r root rest moment = do
   attribute ← found (row_at r.inodes.attributes inode) ENOENT
   mine ← need (is_own own attribute.kind) ENOENT
   Ok (reply_alone 0 [] Keeps (without_unused own inode (without_name at parent inode attribute moment r)))
+
+-- ---- another name (C Library Reference: rename)
+
+-- both directories change
+abbrev pub with_both_changed : Spot → Attribute → Spot → Attribute → ℕ → Resources → Resources
+with_both_changed from parent to other moment r = record r {
+  inodes = with_attribute (with_attribute r.inodes from.parent (with_entries_changed moment parent)) to.parent (with_entries_changed moment other);
+}
+
+-- what has the new name already loses it: a directory to a directory alone, if it is empty, and anything else to no directory
+abbrev pub cleared : Kind → Attribute → Spot → Option ℕ → ℕ → Resources → Result Resources Errno
+cleared own attribute to None moment r = Ok r
+cleared own attribute to (Some there) moment r = do
+  target ← found (row_at r.inodes.attributes there) ENOENT
+  onto ← need (is_directory target.kind || not (is_directory attribute.kind)) ENOTDIR
+  no_directory ← need (is_directory attribute.kind || not (is_directory target.kind)) EISDIR
+  empty ← need (is_empty (names_in r.names there)) ENOTEMPTY
+  mine ← need (is_own own target.kind) ENOENT
+  Ok (without_unused own there (record r { inodes = with_attribute r.inodes there (unnamed moment target); names = remove r.names to.key }))
+
+-- a name goes to its new place, and all below a directory with it
+abbrev pub rename_to : Kind → Resources → Spot → ℕ → Attribute → Spot → Attribute → ℕ → Result (Deed Resources) Errno
+rename_to own r from inode parent to other moment = do
+  attribute ← found (row_at r.inodes.attributes inode) ENOENT
+  outside ← need (not (is_below from.key to.key.0 to.key.1)) EINVAL
+  free ← cleared own attribute to to.inode moment (with_both_changed from parent to other moment r)
+  Ok (reply_alone 0 [] Keeps (record free { names = moved free.names from.key to.key }))
+
+-- what one path leads to has another path of the same mount (C Library Reference: rename, EBUSY, EINVAL, EISDIR, ENOTDIR, ENOTEMPTY)
+abbrev pub rename_path : Kind → Resources → ℕ → List (List ℕ) → List (List ℕ) → ℕ → Result (Deed Resources) Errno
+rename_path own r root old new moment = do
+  named ← need (not (length old == 0) && not (length new == 0)) EBUSY
+  from ← spot r.inodes r.names r.user root old EBUSY
+  inode ← found from.inode ENOENT
+  to ← spot r.inodes r.names r.user root new EBUSY
+  parent ← writable r.inodes r.user from.parent
+  other ← writable r.inodes r.user to.parent
+  if is_same_key from.key to.key then Ok (reply_alone 0 [] Keeps r) else rename_to own r from inode parent to other moment
 
 -- an open control block of an inode that is the manager's own
 abbrev pub own_block : Inodes → ℕ → Kind → Result Ocb Errno

@@ -45,6 +45,7 @@ pub record ConnectFunctions (S : Type 0) : Type 0 where
   pub stat : Option (S → ℕ → List (List ℕ) → ℕ → Result (Deed S) Errno)
   pub unlink : Option (S → ℕ → List (List ℕ) → ℕ → Result (Deed S) Errno)
   pub mknod : Option (S → ℕ → ℕ → List (List ℕ) → ℕ → Result (Deed S) Errno)
+  pub rename : Option (S → ℕ → List (List ℕ) → List (List ℕ) → ℕ → Result (Deed S) Errno)
 
 -- the functions for messages over what is open
 pub record IoFunctions (S : Type 0) : Type 0 where
@@ -60,7 +61,7 @@ pub record IoFunctions (S : Type 0) : Type 0 where
 
 -- the tables of a manager that has no function
 abbrev pub no_connect : {S : Type 0} → ConnectFunctions S
-no_connect = record { «open» = None; stat = None; unlink = None; mknod = None }
+no_connect = record { «open» = None; stat = None; unlink = None; mknod = None; rename = None }
 
 abbrev pub no_io : {S : Type 0} → IoFunctions S
 no_io = record { read = None; write = None; close = None; dup = None; lseek = None; fstat = None; list = None; chmod = None; notify = None }
@@ -116,6 +117,7 @@ message_deed connect io state context (msg.Open flags mode rest) =
 message_deed connect io state context (msg.Stat rest) = function_deed connect.stat (side_root context.target) (λ f root. f state root rest context.moment)
 message_deed connect io state context (msg.Unlink rest) = function_deed connect.unlink (side_root context.target) (λ f root. f state root rest context.moment)
 message_deed connect io state context (msg.Mknod mode rest) = function_deed connect.mknod (side_root context.target) (λ f root. f state root mode rest context.moment)
+message_deed connect io state context (msg.Rename from to) = function_deed connect.rename (side_root context.target) (λ f root. f state root from to context.moment)
 message_deed connect io state context (msg.Read count) = function_deed io.read context.opened (λ f opened. f state opened count)
 message_deed connect io state context (msg.Write bytes) = function_deed io.write context.opened (λ f opened. f state opened bytes)
 message_deed connect io state context msg.Close = function_deed io.close context.opened (λ f opened. f state opened)

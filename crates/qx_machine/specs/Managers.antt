@@ -8,7 +8,7 @@ use Rattle.qx_machine.specs.declared.rows.Client.{Client}
 use Rattle.qx_machine.specs.declared.rows.Context.{Context}
 use Rattle.qx_machine.specs.declared.rows.Kind.{Kind}
 use Rattle.qx_machine.specs.declared.rows.Kind.TheVariants.{Device, File, Pipe}
-use Rattle.qx_machine.specs.Defaults.{chmod_block, close_dup, close_ocb, dup_open, list_block, make_directory, open_path, stat_block, stat_path, unlink_path}
+use Rattle.qx_machine.specs.Defaults.{chmod_block, close_dup, close_ocb, dup_open, list_block, make_directory, open_path, rename_path, stat_block, stat_path, unlink_path}
 use Rattle.qx_machine.specs.Functions.{ConnectFunctions, Deed, IoFunctions, message_deed}
 use Rattle.qx_machine.specs.Inodes.{blocks_of_client}
 use Rattle.qx_machine.specs.Notification.{notify_block}
@@ -17,11 +17,11 @@ use Rattle.qx_machine.specs.RamManager.{read_file, seek_file, write_file}
 use Rattle.qx_machine.specs.Resources.{Resources}
 
 abbrev pub ram_connect : ConnectFunctions Resources
-ram_connect = record { «open» = Some (open_path File); stat = Some stat_path; unlink = Some (unlink_path File); mknod = Some make_directory }
+ram_connect = record { «open» = Some (open_path File); stat = Some stat_path; unlink = Some (unlink_path File); mknod = Some make_directory; rename = Some (rename_path File) }
 
 -- where calls may wait in a manager's own kind of inode; its mounts have no directories to be made
 abbrev pub pipe_connect : Kind → ConnectFunctions Resources
-pipe_connect own = record { «open» = Some (open_path own); stat = Some stat_path; unlink = Some (unlink_path own); mknod = None }
+pipe_connect own = record { «open» = Some (open_path own); stat = Some stat_path; unlink = Some (unlink_path own); mknod = None; rename = None }
 
 abbrev pub ram_io : IoFunctions Resources
 ram_io = record { read = Some read_file; write = Some write_file; close = Some (close_dup File); dup = Some dup_open; lseek = Some seek_file; fstat = Some stat_block; list = Some list_block; chmod = Some chmod_block; notify = Some notify_block }

@@ -1,10 +1,10 @@
 -- Names of files and directories: where a path leads, and what is in a directory (C Library Reference: open, stat, readdir; that a path is
 -- searched from its mount's root on is this profile).
-use Rattle.std.specs.Prelude.{ℕ, ◌+◌, ◌-◌, ◌==◌, ◌++◌, Bool, true, false, List, [], ◌∷◌, Option, Some, None, Result, Ok, Err, filter, length, nat_le, if◌then◌else◌}
+use Rattle.std.specs.Prelude.{ℕ, ◌+◌, ◌-◌, ◌==◌, ◌++◌, ◌||◌, Bool, true, false, List, [], ◌∷◌, Option, Some, None, Result, Ok, Err, filter, length, map, nat_le, if◌then◌else◌}
 use Rattle.std.specs.Cmp.Lexicographic.{slice_cmp}
-use Rattle.std.specs.FinMap.{FinMap, entries, get, insert}
+use Rattle.std.specs.FinMap.{FinMap, entries, from_entries, get, insert}
 use Rattle.std.specs.List.{flat_map}
-use Rattle.std.specs.Ordering.{is_lt, nat_cmp, on, then_cmp}
+use Rattle.std.specs.Ordering.{eq_by_cmp, is_lt, nat_cmp, on, then_cmp}
 use Rattle.std.specs.declared.cmp.Ordering.{Ordering}
 use Rattle.qx_errno.specs.declared.Errno.{Errno}
 use Rattle.qx_errno.specs.declared.Errno.TheVariants.{EACCES, ENOENT, ENOTDIR}
@@ -101,6 +101,28 @@ inode_at inodes names user root (name ∷ rest) = do
   first ← start names root
   at ← walk inodes names user first (root_key root) name rest
   found at.inode ENOENT
+
+-- ---- a path that begins otherwise
+
+abbrev pub is_same_key : Key → Key → Bool
+is_same_key one two = eq_by_cmp key_cmp one two
+
+-- whether a path of a mount begins with another, and goes on
+abbrev pub is_below : Key → ℕ → List (List ℕ) → Bool
+is_below from root [] = false
+is_below from root (name ∷ above) = is_same_key (root, above) from || is_below from root above
+
+-- a path of a mount, where what began with one path begins with another
+abbrev pub moved_path : Key → Key → ℕ → List (List ℕ) → Key
+moved_path from to root [] = root_key root
+moved_path from to root (name ∷ above) = if is_same_key (root, name ∷ above) from then to else under (moved_path from to root above) name
+
+abbrev pub moved_entry : Key → Key → Key × ℕ → Key × ℕ
+moved_entry from to entry = (moved_path from to entry.0.0 entry.0.1, entry.1)
+
+-- each path that begins with the one begins with the other, and leads where it led
+abbrev pub moved : Names → Key → Key → Names
+moved names from to = from_entries (map (moved_entry from to) (entries names))
 
 -- ---- directories
 

@@ -32,12 +32,13 @@ pub struct Target {
     pub prio: Prio,
 }
 
-/// Where a call's message goes, and what the call's path has behind the prefix of its mount; a call that names no path
-/// has nothing there.
+/// Where a call's message goes, and what the call's path has behind the prefix of its mount, and the second path of a
+/// call that names two; a call that names none has nothing there.
 #[derive(Debug, Drop)]
 pub struct Addressed<'a> {
     pub target: Target,
     pub rest: Path<'a>,
+    pub to: Path<'a>,
 }
 
 /// A message: its bytes, and what its channel keeps beside them: where it went, and whether it was asked to unblock its

@@ -3,7 +3,6 @@ use Rattle.std.specs.Prelude.{ℕ, zero, suc, ◌+◌, ◌-◌, ◌≢◌, ◌<�
 use Rattle.std.specs.FinMap as map
 use Rattle.std.specs.FinMap.Entries.{find, is_sorted-put, is_sorted-where_key, put, where_key}
 use Rattle.std.specs.List.{IsDistinct}
-use Rattle.std.specs.Cmp.Lexicographic.{nat_list_cmp_total}
 use Rattle.std.specs.Ordering.{nat_cmp}
 use Rattle.std.proofs.Common.{◌≡◌, true, inl, inr, ap, arith, refl, subst, sym, ◌∙◌}
 use Rattle.std.proofs.lemmas.Bool.Decides.{eqb_tells}
@@ -13,10 +12,10 @@ use Rattle.qx_lists.specs.Table.{ContainsNode, IsIn, Table, next_after, nodes_of
 use Rattle.qx_lists.proofs.ListLemmas.{absent_without, without_keeps}
 use Rattle.qx_lists.proofs.MapLemmas.{get-insert_other, get-insert_same, get-remove_other, get-remove_same}
 use Rattle.qx_lists.proofs.WalkLemmas.{contains-index, next_after-index}
-use Rattle.qx_machine.proofs.Directories.{name_cmp}
 use Rattle.qx_names.specs.inner.Children.{Children, Entry, IsRising, Keeps, Turns, count_to, entries_of, entry_of, folder_of, no_children}
+use Rattle.qx_names.specs.inner.Folders.{Place, place_cmp}
 use Rattle.qx_names.proofs.IndexLemmas.{Contains-insert, insert-Contains, entry-index, map-insert, map-remove, without-index}
-use Rattle.qx_names.proofs.RisingLemmas.{count_to-within, from-put, from-where, insert-put, not_last, other_than, remove-where}
+use Rattle.qx_names.proofs.RisingLemmas.{count_to-within, from-put, from-where, insert-put, not_last, other_than, place_total, remove-where}
 
 pub none_some : {A : Type 0} (value : A) → None ≡ Some value → ⊥
 none_some value e = cc
@@ -35,7 +34,7 @@ nodes_there t children keeps there index same k node is = child_there t children
 
 -- ---- the node before those behind a name, which alone can have it
 
-module _ (t : Table Entry) (children : Children) (keeps : Keeps t children) (name : List ℕ) (index : List ℕ) (same : index ≡ children.nodes) (behind : ℕ) (counted : behind ≡ count_to name (mapped (entry_of t) index)) (some : behind ≡ 0 → ⊥) where
+module _ (t : Table Entry) (children : Children) (keeps : Keeps t children) (name : Place) (index : List ℕ) (same : index ≡ children.nodes) (behind : ℕ) (counted : behind ≡ count_to name (mapped (entry_of t) index)) (some : behind ≡ 0 → ⊥) where
   pub last-within : behind - 1 < length index
   last-within = omega (arith, count_to-within name (mapped (entry_of t) index), length-map index (entry_of t), counted, some)
 
@@ -53,7 +52,7 @@ module _ (t : Table Entry) (children : Children) (keeps : Keeps t children) (nam
       pub last-found : entry.0 ≡ name → (inode : ℕ) × (slice_get (entries_of t children) (behind - 1) ≡ Some (name, inode))
       last-found e = (entry.1, last-entry ∙ ap (λ key. Some (key, entry.1)) e)
 
-      pub last-missing : (entry.0 ≡ name → ⊥) → find name_cmp name (entries_of t children) ≡ None
+      pub last-missing : (entry.0 ≡ name → ⊥) → find place_cmp name (entries_of t children) ≡ None
       last-missing differs = not_last name (entries_of t children) (behind - 1) entry keeps.rising counted_last last-entry differs
 
 -- ---- the nodes of the list
@@ -108,7 +107,7 @@ module _ (t new : Table Entry) (children : Children) (keeps : Keeps t children) 
 
   -- ---- an entry is put in, by a new node
 
-  module _ (name : List ℕ) (inode : ℕ) (place_is : place ≡ count_to name entries) (absent : find name_cmp name entries ≡ None) (made : (children.list ≡ Some list) ⊎ ((children.list ≡ None) × (map.get t.lists list ≡ None))) (fresh : map.get t.values node ≡ None) (here : map.get new.lists list ≡ Some (insert children.nodes place node)) (values : new.values ≡ map.insert t.values node (name, inode)) where
+  module _ (name : Place) (inode : ℕ) (place_is : place ≡ count_to name entries) (absent : find place_cmp name entries ≡ None) (made : (children.list ≡ Some list) ⊎ ((children.list ≡ None) × (map.get t.lists list ≡ None))) (fresh : map.get t.values node ≡ None) (here : map.get new.lists list ≡ Some (insert children.nodes place node)) (values : new.values ≡ map.insert t.values node (name, inode)) where
     abbrev with_entry : Children
     with_entry = record { list = Some list; nodes = insert children.nodes place node }
 
@@ -118,10 +117,10 @@ module _ (t new : Table Entry) (children : Children) (keeps : Keeps t children) 
     value_other : (other : ℕ) → ContainsNode t other → map.get new.values other ≡ map.get t.values other
     value_other other is = ap (λ m. map.get m other) values ∙ get-insert_other t.values node (name, inode) other (is_other other is)
 
-    put_entries : entries_of new with_entry ≡ put name_cmp name inode entries
+    put_entries : entries_of new with_entry ≡ put place_cmp name inode entries
     put_entries =
-        map-insert (entry_of t) (entry_of new) children.nodes place node (λ other at. ap (λ o. unwrap_or o ([], 0)) (value_other other (child_there t children keeps there other at)))
-        ∙ ap (insert entries place) (ap (λ o. unwrap_or o ([], 0)) (ap (λ m. map.get m node) values ∙ get-insert_same t.values node (name, inode)))
+        map-insert (entry_of t) (entry_of new) children.nodes place node (λ other at. ap (λ o. unwrap_or o ((0, []), 0)) (value_other other (child_there t children keeps there other at)))
+        ∙ ap (insert entries place) (ap (λ o. unwrap_or o ((0, []), 0)) (ap (λ m. map.get m node) values ∙ get-insert_same t.values node (name, inode)))
         ∙ ap (λ i. insert entries i (name, inode)) place_is ∙ insert-put name inode entries absent
 
     pub put_folder : folder_of new with_entry ≡ map.insert (folder_of t children) name inode
@@ -156,7 +155,7 @@ module _ (t new : Table Entry) (children : Children) (keeps : Keeps t children) 
         listed = λ other p. ap (map.get new.lists) (sym (same_some list other p)) ∙ here;
         some = λ other p. some_by children.nodes place;
         none = λ e. absurd (none_some list (sym e));
-        rising = subst IsRising (sym put_entries) (is_sorted-put name_cmp nat_list_cmp_total name inode entries keeps.rising);
+        rising = subst IsRising (sym put_entries) (is_sorted-put place_cmp place_total name inode entries keeps.rising);
       };
       others = λ other p q. lists other (λ same. q (ap Some (sym same)));
       made = made_by;
@@ -168,24 +167,24 @@ module _ (t new : Table Entry) (children : Children) (keeps : Keeps t children) 
 
   -- ---- an entry is taken out, with its node
 
-  module _ (name : List ℕ) (inode : ℕ) (was : children.list ≡ Some list) (is : slice_get children.nodes place ≡ Some node) (at : slice_get entries place ≡ Some (name, inode)) (distinct : (list : ℕ) → IsDistinct nat_eq (nodes_of t list)) (apart : (one two node : ℕ) → IsIn t one node → IsIn t two node → one ≡ two) (values : new.values ≡ map.remove t.values node) (now : Children) (nodes : now.nodes ≡ remove children.nodes place) where
+  module _ (name : Place) (inode : ℕ) (was : children.list ≡ Some list) (is : slice_get children.nodes place ≡ Some node) (at : slice_get entries place ≡ Some (name, inode)) (distinct : (list : ℕ) → IsDistinct nat_eq (nodes_of t list)) (apart : (one two node : ℕ) → IsIn t one node → IsIn t two node → one ≡ two) (values : new.values ≡ map.remove t.values node) (now : Children) (nodes : now.nodes ≡ remove children.nodes place) where
     one_less : remove children.nodes place ≡ without node children.nodes
     one_less = sym (without-index children.nodes place node (nodes-distinct t children keeps list was distinct) is)
 
     value_still : (other : ℕ) → other ≢ node → map.get new.values other ≡ map.get t.values other
     value_still other differs = ap (λ m. map.get m other) values ∙ get-remove_other t.values node other differs
 
-    take_entries : entries_of new now ≡ where_key name_cmp (other_than name) entries
+    take_entries : entries_of new now ≡ where_key place_cmp (other_than name) entries
     take_entries =
         ap (mapped (entry_of new)) nodes
-        ∙ map-remove (entry_of t) (entry_of new) children.nodes place (λ other in_rest. ap (λ o. unwrap_or o ([], 0)) (value_still other (λ same. absent_without node children.nodes (subst (Contains (without node children.nodes)) same (subst (λ xs. Contains xs other) one_less in_rest)))))
+        ∙ map-remove (entry_of t) (entry_of new) children.nodes place (λ other in_rest. ap (λ o. unwrap_or o ((0, []), 0)) (value_still other (λ same. absent_without node children.nodes (subst (Contains (without node children.nodes)) same (subst (λ xs. Contains xs other) one_less in_rest)))))
         ∙ remove-where name inode entries place keeps.rising at
 
     pub take_folder : folder_of new now ≡ map.remove (folder_of t children) name
     take_folder = ap (λ es. map.from_entries es) take_entries ∙ from-where name entries
 
     take_rising : IsRising (entries_of new now)
-    take_rising = subst IsRising (sym take_entries) (is_sorted-where_key name_cmp (other_than name) entries keeps.rising)
+    take_rising = subst IsRising (sym take_entries) (is_sorted-where_key place_cmp (other_than name) entries keeps.rising)
 
     values_other : (other one : ℕ) → children.list ≢ Some other → IsIn t other one → map.get new.values one ≡ map.get t.values one
     values_other other one differs stands =
@@ -240,7 +239,7 @@ module _ (t new : Table Entry) (children : Children) (keeps : Keeps t children) 
 
 -- ---- the calls that take an entry out
 
-module _ (t : Table Entry) (children : Children) (keeps : Keeps t children) (list : ℕ) (was : children.list ≡ Some list) (there : (list node : ℕ) → IsIn t list node → ContainsNode t node) (distinct : (list : ℕ) → IsDistinct nat_eq (nodes_of t list)) (apart : (one two node : ℕ) → IsIn t one node → IsIn t two node → one ≡ two) (name : List ℕ) (inode place node : ℕ) (is : slice_get children.nodes place ≡ Some node) (at : slice_get (entries_of t children) place ≡ Some (name, inode)) (unlinked freed : Table Entry) (out : unlinked ≡ with_nodes t list (without node (nodes_of t list))) (free : freed ≡ record unlinked { values = map.remove unlinked.values node; room = unlinked.room + 1 }) where
+module _ (t : Table Entry) (children : Children) (keeps : Keeps t children) (list : ℕ) (was : children.list ≡ Some list) (there : (list node : ℕ) → IsIn t list node → ContainsNode t node) (distinct : (list : ℕ) → IsDistinct nat_eq (nodes_of t list)) (apart : (one two node : ℕ) → IsIn t one node → IsIn t two node → one ≡ two) (name : Place) (inode place node : ℕ) (is : slice_get children.nodes place ≡ Some node) (at : slice_get (entries_of t children) place ≡ Some (name, inode)) (unlinked freed : Table Entry) (out : unlinked ≡ with_nodes t list (without node (nodes_of t list))) (free : freed ≡ record unlinked { values = map.remove unlinked.values node; room = unlinked.room + 1 }) where
   abbrev lists : (other : ℕ) → other ≢ list → map.get freed.lists other ≡ map.get t.lists other
   lists = freed-lists t children keeps list was distinct place node is unlinked freed out free
 

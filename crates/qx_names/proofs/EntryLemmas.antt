@@ -2,18 +2,16 @@
 use Rattle.std.specs.Prelude.{ℕ, suc, List, [], ◌∷◌, ◌++◌, Option, Some, None, map as mapped, length, if◌then◌else◌}
 use Rattle.std.specs.Cmp.Lexicographic.{slice_cmp, lists_total, nat_list_cmp_total}
 use Rattle.std.specs.Cmp.{nat_cmp_total, tied_itself}
-use Rattle.std.specs.FinMap as map
 use Rattle.std.specs.FinMap.{entries, entries_sorted, get, get-entries}
-use Rattle.std.specs.FinMap.Entries.{find, same_entries}
+use Rattle.std.specs.FinMap.Entries.{find, is_sorted, same_entries}
 use Rattle.std.specs.Ordering.{eq_by_cmp, is_eq, ordering_then}
 use Rattle.std.specs.declared.cmp.Ordering.{Ordering}
 use Rattle.std.specs.declared.cmp.Ordering.TheVariants.{Less, Equal, Greater}
-use Rattle.std.proofs.Common.{◌≡◌, Bool, true, false, cond, ap, refl, sym, ◌∙◌, arith}
+use Rattle.std.proofs.Common.{◌≡◌, Bool, true, false, T, cond, ap, refl, sym, ◌∙◌, arith}
 use Rattle.std.proofs.lemmas.Bool.{eq-eqb}
 use Rattle.qx_machine.specs.Listings.{HasAtMostOnePath}
 use Rattle.qx_machine.specs.Names.{Key, Names, is_there, key_cmp, names_in, under}
 use Rattle.qx_machine.proofs.Directories.{name_cmp, names-pairs, pairs_in, sorted_pairs, there_is}
-use Rattle.qx_names.specs.inner.Folders.{Folder}
 use Rattle.qx_names.specs.Paths.{HasNoPath, path_of}
 use Rattle.qx_names.specs.inner.Shows.{Shows, key_total, key-IsAntisymmetric}
 use Rattle.qx_names.proofs.RisingLemmas.{names_same}
@@ -93,11 +91,11 @@ module _ (root : ℕ → Bool) (entry : ℕ → List ℕ → Option ℕ) (names 
           let unnamed : HasNoPath names directory = λ key at. true_false (sym (is_there-Some directory) ∙ ap (λ x. is_there x directory) (sym (is_named names key directory at)) ∙ e) in
           ap (find name_cmp name) (no_pairs unnamed (entries names)) ∙ sym (no_entries root entry names s directory unnamed name)
 
-  -- the names in a directory are those of the map that gives its entries
-  pub names_are_keys : (folder : Folder) → ((name : List ℕ) → map.get folder name ≡ entry directory name) → names_in names directory ≡ map.keys folder
-  names_are_keys folder gives =
+  -- the names in a directory are those of its entries
+  pub names_are_those : (es : List (List ℕ × ℕ)) → T (is_sorted name_cmp es) → ((name : List ℕ) → find name_cmp name es ≡ entry directory name) → names_in names directory ≡ mapped (λ pair. pair.0) es
+  names_are_those es sorted gives =
       names-pairs names directory (entries names)
-      ∙ ap (mapped (λ pair. pair.0)) (same_entries name_cmp nat_list_cmp_total names_same (pairs (entries names)) (entries folder) (sorted_pairs names directory single (entries names) (entries_sorted names)) (entries_sorted folder) (λ name. find-names name ∙ sym (gives name) ∙ get-entries folder name))
+      ∙ ap (mapped (λ pair. pair.0)) (same_entries name_cmp nat_list_cmp_total names_same (pairs (entries names)) es (sorted_pairs names directory single (entries names) (entries_sorted names)) sorted (λ name. find-names name ∙ sym (gives name)))
 
   no_first : (xs : List (List ℕ × ℕ)) → mapped (λ (pair : List ℕ × ℕ). pair.0) xs ≡ [] → xs ≡ []
   no_first [] e = refl

@@ -63,4 +63,4 @@ module _ {B : Type 0} (f g : ℕ → B) where
 
 -- the entry of the node of a place
 pub entry-index : (t : Table Entry) (nodes : List ℕ) (i node : ℕ) (entry : Entry) → slice_get nodes i ≡ Some node → map.get t.values node ≡ Some entry → slice_get (mapped (entry_of t) nodes) i ≡ Some entry
-entry-index t nodes i node entry is value = slice_get-map (entry_of t) nodes i ∙ ap (option_map (entry_of t)) is ∙ ap (λ o. Some (unwrap_or o ([], 0))) value
+entry-index t nodes i node entry is value = slice_get-map (entry_of t) nodes i ∙ ap (option_map (entry_of t)) is ∙ ap (λ o. Some (unwrap_or o ((0, []), 0))) value

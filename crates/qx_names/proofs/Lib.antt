@@ -4,8 +4,8 @@ pub mod RisingLemmas
 pub mod IndexLemmas
 -- the child list of one directory
 pub mod ChildLemmas
--- the entries of all directories
-pub mod FolderLemmas
+-- the entries of one directory among those of all
+pub mod PairLemmas
 -- maps, one entry changed
 pub mod MapLemmas
 -- what is left to be listed
@@ -18,3 +18,15 @@ pub mod PathLemmas
 pub mod ShowsLemmas
 -- the names in a directory
 pub mod EntryLemmas
+-- what the directories show once an entry goes to another place
+pub mod MovedLemmas
+-- an entry that goes to another place
+pub mod RenameLemmas
+-- whether a path goes through a directory
+pub mod BelowLemmas
+-- whether a directory has entries
+pub mod EmptyLemmas
+-- paths that come and go, and the names in a directory
+pub mod Keys
+-- paths that begin otherwise
+pub mod Moved

@@ -20,7 +20,7 @@ false_true : true ≡ false → ⊥
 false_true e = cc
 
 module _ {K : Type 0} {R : K → K → Ordering} (o : IsTotalOrder R) (same : IsAntisymmetric R) where
-  tied : (one : K) → eq_by_cmp R one one ≡ true
+  pub tied : (one : K) → eq_by_cmp R one one ≡ true
   tied one = ap is_eq (tied_itself o one)
 
   same_by : (one two : K) (b : Bool) → eq_by_cmp R one two ≡ b → (one ≡ two) ⊎ (one ≡ two → ⊥)

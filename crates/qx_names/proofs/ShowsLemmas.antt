@@ -18,21 +18,21 @@ abbrev unwrap : Option ℕ → ℕ
 unwrap None = 0
 unwrap (Some value) = value
 
-some_same : (one two : ℕ) → Some one ≡ Some two → one ≡ two
+pub some_same : (one two : ℕ) → Some one ≡ Some two → one ≡ two
 some_same one two e = ap unwrap e
 
-none_some : (value : ℕ) → None ≡ Some value → ⊥
+pub none_some : (value : ℕ) → None ≡ Some value → ⊥
 none_some value e = cc
 
-abbrev tail : List (List ℕ) → List (List ℕ)
+abbrev pub tail : List (List ℕ) → List (List ℕ)
 tail [] = []
 tail (name ∷ names) = names
 
-abbrev head : List (List ℕ) → List ℕ
+abbrev pub head : List (List ℕ) → List ℕ
 head [] = []
 head (name ∷ names) = name
 
-abbrev parent : Key → Key
+abbrev pub parent : Key → Key
 parent key = (key.0, tail key.1)
 
 -- a path is not its own directory's

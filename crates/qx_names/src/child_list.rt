@@ -1,14 +1,13 @@
-//! The entries of one directory, in a list of a table that the caller lends.
+//! The entries of all directories of a user, one directory's behind another's, in a list of a table that the caller lends.
 
 ghost use Rattle.std.specs.Prelude.{◌≡◌, ◌==◌, ◌≤◌, ℕ, [], None, Some, IfNone, IfSome, OnErr, OnOk, insert, length, map as mapped, slice_get};
 ghost use Rattle.std.specs.FinMap as map;
 ghost use Rattle.std.specs.FinMap.Entries.{find};
-ghost use Rattle.std.specs.Ordering.{nat_cmp};
-ghost use Rattle.std.specs.Cmp.Lexicographic.{slice_cmp};
 ghost use Rattle.qx_lists.specs.Table.{IsFree, with_nodes};
-ghost use Rattle.qx_machine.specs.Names.{names_behind, fitting, listing};
+ghost use Rattle.qx_machine.specs.Names.{is_empty, names_behind, fitting, listing};
 ghost use Rattle.qx_names.specs.inner.Children.{Keeps, Turns, entries_of, folder_of, no_children};
-ghost use Rattle.qx_types.specs.declared.limits.TheConstants.Limits.{TRANSFER};
+ghost use Rattle.qx_names.specs.inner.Folders.{names_of, place_cmp};
+ghost use Rattle.qx_types.specs.declared.limits.TheConstants.Limits.{COMPONENT, TRANSFER};
 
 use crate::entry::Entry;
 use crate::search::place_behind;
@@ -19,9 +18,9 @@ use qx_types::Limits;
 use std::alloc::{AllocError, Global};
 use std::marker::Model;
 
-/// The entries of one directory: a list of the table, in the order of the names' bytes, and beside it an index, which has the
-/// list's nodes in the list's order. By the index a name is found, by the list the next one. Where there is no entry, there
-/// is no list, and the index has no room.
+/// The entries of all directories: a list of the table, by directory and then in the order of the names' bytes, and beside it
+/// an index, which has the list's nodes in the list's order. By the index a name is found, by the list the next one. An entry
+/// that goes to another directory stays one of them, so that takes no memory.
 #[derive(Drop)]
 pub(crate) struct ChildList {
     // None where there is no entry.
@@ -53,60 +52,70 @@ impl ChildList {
         }
     }
 
-    /// Whether there are no entries.
-    pub(crate) fn is_empty(&self) -> bool
-        ensures { result ≡ (length self.now.nodes == 0) }
+    /// Whether a directory has no entries.
+    pub(crate) fn is_empty(&self, table: &Table<Entry>, directory: u32) -> bool
+        requires keeps { Keeps table.now self.now }
+        ensures { result ≡ is_empty (names_of directory (entries_of table.now self.now)) }
     {
-        self.index.is_empty()
+        let None = self.position(table, directory, &[]) else {
+            return false;
+        };
+        table.know();
+        let place = place_behind(table, &self.index, directory, &[]);
+        let Some(node) = node_at(&self.index, place) else {
+            return true;
+        };
+        table.value(node).directory() != directory
     }
 
-    /// What a name names.
-    pub(crate) fn get(&self, table: &Table<Entry>, name: &[u8]) -> Option<u32>
+    /// What a name names in a directory.
+    pub(crate) fn get(&self, table: &Table<Entry>, directory: u32, name: &[u8]) -> Option<u32>
         requires keeps { Keeps table.now self.now }
-        ensures entry { result ≡ find (slice_cmp nat_cmp) name.now (entries_of table.now self.now) }
+        ensures entry { result ≡ find place_cmp (directory, name.now) (entries_of table.now self.now) }
     {
         table.know();
-        let place = self.position(table, name)?;
+        let place = self.position(table, directory, name)?;
         Some(table.value(self.index[place]).inode())
     }
 
     /// The place of a name's entry.
-    fn position(&self, table: &Table<Entry>, name: &[u8]) -> Option<usize>
+    fn position(&self, table: &Table<Entry>, directory: u32, name: &[u8]) -> Option<usize>
         requires keeps { Keeps table.now self.now }
-        ensures found { IfSome result (λ place. (inode : ℕ) × (slice_get (entries_of table.now self.now) place ≡ Some (name.now, inode))) }
-        ensures missing { IfNone result (find (slice_cmp nat_cmp) name.now (entries_of table.now self.now) ≡ None) }
+        ensures found { IfSome result (λ place. (inode : ℕ) × (slice_get (entries_of table.now self.now) place ≡ Some ((directory, name.now), inode))) }
+        ensures missing { IfNone result (find place_cmp (directory, name.now) (entries_of table.now self.now) ≡ None) }
     {
         table.know();
-        let behind = place_behind(table, &self.index, name);
+        let behind = place_behind(table, &self.index, directory, name);
         if behind == 0 {
             return None;
         }
-        if table.value(self.index[behind - 1]).name() == name {
+        if table.value(self.index[behind - 1]).is_at(directory, name) {
             Some(behind - 1)
         } else {
             None
         }
     }
 
-    /// Puts an entry in whose name is new. Where memory is short, nothing changes.
+    /// Puts an entry in whose place is new. Where memory is short, nothing changes.
     pub(crate) fn insert(
         &mut self,
         table: &mut Table<Entry>,
+        directory: u32,
         name: &[u8],
         inode: u32,
     ) -> Result<(), AllocError>
         requires keeps { Keeps table.old self.old }
-        requires new { find (slice_cmp nat_cmp) name.now (entries_of table.old self.old) ≡ None }
+        requires new { find place_cmp (directory, name.now) (entries_of table.old self.old) ≡ None }
         ensures turns { Turns table.old table.new self.old self.new }
-        ensures ok { OnOk result (folder_of table.new self.new ≡ map.insert (folder_of table.old self.old) name.now inode) }
+        ensures ok { OnOk result (folder_of table.new self.new ≡ map.insert (folder_of table.old self.old) (directory, name.now) inode) }
         ensures err { OnErr result (folder_of table.new self.new ≡ folder_of table.old self.old) }
     {
         let Some(list) = self.list else {
-            return self.insert_first(table, name, inode);
+            return self.insert_first(table, directory, name, inode);
         };
         table.know();
-        let place = place_behind(table, &self.index, name);
-        let entry = Entry::new(name, inode)?;
+        let place = place_behind(table, &self.index, directory, name);
+        let entry = Entry::new(directory, name, inode)?;
         growth::reserve(&mut self.index, 1)?;
         table.reserve(1)?;
         let node = table.new_node(entry)?;
@@ -119,17 +128,18 @@ impl ChildList {
     fn insert_first(
         &mut self,
         table: &mut Table<Entry>,
+        directory: u32,
         name: &[u8],
         inode: u32,
     ) -> Result<(), AllocError>
         requires keeps { Keeps table.old self.old }
         requires none { self.old.list ≡ None }
         ensures turns { Turns table.old table.new self.old self.new }
-        ensures ok { OnOk result (folder_of table.new self.new ≡ map.insert (folder_of table.old self.old) name.now inode) }
+        ensures ok { OnOk result (folder_of table.new self.new ≡ map.insert (folder_of table.old self.old) (directory, name.now) inode) }
         ensures err { OnErr result (folder_of table.new self.new ≡ folder_of table.old self.old) }
     {
         table.know();
-        let entry = Entry::new(name, inode)?;
+        let entry = Entry::new(directory, name, inode)?;
         let mut index = Vec::with_capacity(*self.index.allocator(), 1)?;
         table.reserve(1)?;
         let list = table.add_list()?;
@@ -144,15 +154,15 @@ impl ChildList {
     }
 
     /// Takes an entry out, and gives back the list with the last one.
-    pub(crate) fn remove(&mut self, table: &mut Table<Entry>, name: &[u8])
+    pub(crate) fn remove(&mut self, table: &mut Table<Entry>, directory: u32, name: &[u8])
         requires keeps { Keeps table.old self.old }
         ensures turns { Turns table.old table.new self.old self.new }
-        ensures removed { folder_of table.new self.new ≡ map.remove (folder_of table.old self.old) name.now }
+        ensures removed { folder_of table.new self.new ≡ map.remove (folder_of table.old self.old) (directory, name.now) }
     {
         let Some(list) = self.list else {
             return;
         };
-        let Some(place) = self.position(table, name) else {
+        let Some(place) = self.position(table, directory, name) else {
             return;
         };
         table.know();
@@ -165,23 +175,66 @@ impl ChildList {
         }
     }
 
-    /// Writes the names behind one, each followed by a zero byte, as many whole ones as fit a transfer, and tells how many.
-    pub(crate) fn list(&self, table: &Table<Entry>, after: &[u8], reply: &mut Reply) -> u64
+    /// An entry goes to another place, which is new. Takes no memory: the node that it has goes there.
+    pub(crate) fn rename(
+        &mut self,
+        table: &mut Table<Entry>,
+        directory: u32,
+        name: &[u8],
+        target: u32,
+        next: &[u8],
+    )
+        requires keeps { Keeps table.old self.old }
+        requires new { find place_cmp (target, next.now) (entries_of table.old self.old) ≡ None }
+        requires short { length next.now ≤ COMPONENT }
+        ensures turns { Turns table.old table.new self.old self.new }
+        ensures renamed { (inode : ℕ) → find place_cmp (directory, name.now) (entries_of table.old self.old) ≡ Some inode → folder_of table.new self.new ≡ map.insert (map.remove (folder_of table.old self.old) (directory, name.now)) (target, next.now) inode }
+        ensures missing { find place_cmp (directory, name.now) (entries_of table.old self.old) ≡ None → folder_of table.new self.new ≡ folder_of table.old self.old }
+    {
+        let Some(list) = self.list else {
+            return;
+        };
+        let Some(place) = self.position(table, directory, name) else {
+            return;
+        };
+        table.know();
+        let node = self.index.remove(place);
+        qx_uncounted::unlink(table, list, node);
+        table.value_mut(node).go_to(target, next);
+        table.know();
+        let place = place_behind(table, &self.index, target, next);
+        link_at(table, list, &self.index, place, node);
+        let _room = self.index.insert(place, node);
+    }
+
+    /// Writes the names of a directory behind one, each followed by a zero byte, as many whole ones as fit a
+    /// transfer, and tells how many.
+    pub(crate) fn list(
+        &self,
+        table: &Table<Entry>,
+        directory: u32,
+        after: &[u8],
+        reply: &mut Reply,
+    ) -> u64
         requires keeps { Keeps table.now self.now }
         requires empty { reply.old ≡ [] }
-        ensures names { reply.new ≡ listing (fitting TRANSFER (names_behind after.now (mapped (λ entry. entry.0) (entries_of table.now self.now)))) }
-        ensures count { result ≡ length (fitting TRANSFER (names_behind after.now (mapped (λ entry. entry.0) (entries_of table.now self.now)))) }
+        ensures names { reply.new ≡ listing (fitting TRANSFER (names_behind after.now (names_of directory (entries_of table.now self.now)))) }
+        ensures count { result ≡ length (fitting TRANSFER (names_behind after.now (names_of directory (entries_of table.now self.now)))) }
     {
         let Some(list) = self.list else {
             return 0;
         };
         table.know();
-        let place = place_behind(table, &self.index, after);
+        let place = place_behind(table, &self.index, directory, after);
         let mut next = node_at(&self.index, place);
         let mut room = Limits::TRANSFER;
         let mut count = 0;
         'nodes: while let Some(node) = next {
-            let name = table.value(node).name();
+            let entry = table.value(node);
+            if entry.directory() != directory {
+                return count;
+            }
+            let name = entry.name();
             if name.len() + 1 > room {
                 return count;
             }

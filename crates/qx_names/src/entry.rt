@@ -1,6 +1,6 @@
 //! What a node of a directory's child list has.
 
-ghost use Rattle.std.specs.Prelude.{◌≡◌, ◌≤◌, IfOk, IsOk, length};
+ghost use Rattle.std.specs.Prelude.{◌≡◌, ◌≢◌, ◌≤◌, true, false, IfOk, IsOk, length};
 ghost use Rattle.qx_types.specs.declared.limits.TheConstants.Limits.{COMPONENT};
 
 use arrayvec::ArrayVec;
@@ -10,9 +10,10 @@ use std::marker::Model;
 
 const NAME_BYTES: usize = Limits::COMPONENT;
 
-/// A name, whose bytes stand in the entry itself, and the inode that it names.
+/// A name in a directory, whose bytes stand in the entry itself, and the inode that it names.
 #[derive(Drop)]
 pub(crate) struct Entry {
+    directory: u32,
     name: ArrayVec<u8, NAME_BYTES>,
     inode: u32,
 }
@@ -24,24 +25,55 @@ impl Model for Entry {
 
     ghost coded = { words.entry_code };
 
-    ghost view = { λ e. (e.name.items, e.inode) };
+    ghost view = { λ e. ((e.directory, e.name.items), e.inode) };
 }
 
 impl Entry {
     /// An entry. A name longer than a path's component has no room in one, which is told as want of memory.
-    pub(crate) fn new(name: &[u8], inode: u32) -> Result<Self, AllocError>
-        ensures ok { IfOk result (λ entry. entry ≡ (name.now, inode)) }
+    pub(crate) fn new(directory: u32, name: &[u8], inode: u32) -> Result<Self, AllocError>
+        ensures ok { IfOk result (λ entry. entry ≡ ((directory, name.now), inode)) }
         ensures fits { length name.now ≤ COMPONENT → IsOk result }
     {
         let mut bytes = ArrayVec::new();
         let Ok(()) = bytes.try_extend_from_slice(name) else {
             return Err(AllocError);
         };
-        Ok(Entry { name: bytes, inode })
+        Ok(Entry {
+            directory,
+            name: bytes,
+            inode,
+        })
+    }
+
+    /// Another place, of a name that is no longer than a path's component.
+    pub(crate) fn go_to(&mut self, directory: u32, name: &[u8])
+        requires { length name.now ≤ COMPONENT }
+        ensures { self.new ≡ ((directory, name.now), self.old.1) }
+    {
+        self.directory = directory;
+        self.name.clear();
+        let _fits = self.name.try_extend_from_slice(name);
+    }
+
+    /// Whether it stands at this place.
+    pub(crate) fn is_at(&self, directory: u32, name: &[u8]) -> bool
+        ensures here { result ≡ true → self.now.0 ≡ (directory, name.now) }
+        ensures apart { result ≡ false → self.now.0 ≢ (directory, name.now) }
+    {
+        if self.directory != directory {
+            return false;
+        }
+        self.name() == name
+    }
+
+    pub(crate) fn directory(&self) -> u32
+        ensures { result ≡ self.now.0.0 }
+    {
+        self.directory
     }
 
     pub(crate) fn name(&self) -> &[u8]
-        ensures { result.now ≡ self.now.0 }
+        ensures { result.now ≡ self.now.0.1 }
     {
         self.name.as_slice()
     }

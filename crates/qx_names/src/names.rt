@@ -1,16 +1,18 @@
-ghost use Rattle.std.specs.Prelude.{◌≡◌, ◌≤◌, ℕ, [], None, Some, IfOk, IfSome, OnOk, OnErr, length, if◌then◌else◌};
+ghost use Rattle.std.specs.Prelude.{◌≡◌, ◌≤◌, ℕ, [], None, Some, IfOk, IfSome, OnOk, OnErr, length, if◌then◌else◌, ◌≢◌, ◌==◌, ◌∷◌, Ok, false};
 ghost use Rattle.std.specs.Cmp.Lexicographic.{slice_cmp};
 ghost use Rattle.std.specs.FinMap as map;
 ghost use Rattle.std.specs.List.Sorted.{IsStrictlySortedBy};
 ghost use Rattle.std.specs.Ordering.{nat_cmp};
 ghost use Rattle.qx_machine.specs.Listings.{HasSizedNames, listed_by, listed_next};
+ghost use Rattle.qx_machine.specs.Inodes as of_inodes;
 ghost use Rattle.qx_machine.specs.Names as machine;
+ghost use Rattle.qx_errno.specs.declared.Errno.{Errno};
 ghost use Rattle.qx_names.specs.Paths.{HasPath, HasNoPath, path_of};
 ghost use Rattle.qx_names.specs.inner.Folders.{entry_at};
 ghost use Rattle.qx_names.specs.inner.Shows.{Shows, is_root};
 ghost use Rattle.qx_names.specs.inner.Shows.{shown_once};
-ghost use Rattle.qx_names.specs.Spots.{spot_found};
-ghost use Rattle.qx_types.specs.declared.limits.TheConstants.Limits.{INODES};
+ghost use Rattle.qx_names.specs.Spots.{AreShort, spot_found};
+ghost use Rattle.qx_types.specs.declared.limits.TheConstants.Limits.{COMPONENT};
 
 use crate::folders::Folders;
 use crate::spot::{Spot, search};
@@ -27,19 +29,18 @@ use std::marker::Model;
 pub struct Names {
     // The inodes of the mounts' roots.
     roots: Vec<u32>,
-    // The entries of each directory, under its inode.
+    // The entries of all directories.
     folders: Folders,
     ghost kept: { (names : machine.Names) × Shows (is_root roots.items) (entry_at folders) names } by { shown_once (is_root roots.items) (entry_at folders) },
 }
 
 impl Model for Names {
     ghost use Rattle.std.specs.List.{IsDistinct};
-    ghost use Rattle.std.specs.Prelude.{◌+◌, ◌≤◌, length, nat_eq};
+    ghost use Rattle.std.specs.Prelude.{nat_eq};
     ghost use Rattle.qx_machine.specs.Names.{Names as Contents};
     ghost use Rattle.qx_names.specs.inner.Folders.{entry_at};
     ghost use Rattle.qx_names.specs.Paths.{names_code};
     ghost use Rattle.qx_names.specs.inner.Shows.{is_root, shown_names};
-    ghost use Rattle.qx_types.specs.declared.limits.TheConstants.Limits.{INODES};
 
     ghost Value = { Contents };
 
@@ -49,7 +50,6 @@ impl Model for Names {
 
     ghost invariant = { λ n. record {
       distinct : IsDistinct nat_eq n.roots.items;
-      few : length n.folders ≤ INODES + 1;
     } };
 }
 
@@ -85,7 +85,6 @@ impl Names {
     /// Names an inode, to which no path led, in a directory that has no such name (C Library Reference: `open`, `mkdir`).
     /// Where memory is short, nothing changes; a name longer than any component of a path is answered so too.
     pub fn insert(&mut self, directory: u32, name: &[u8], inode: u32) -> Result<(), AllocError>
-        requires few { directory ≤ INODES }
         requires directory { HasPath self.old directory }
         requires free { map.get self.old (machine.under (path_of self.old directory) name.now) ≡ None }
         requires new { HasNoPath self.old inode }
@@ -102,8 +101,23 @@ impl Names {
         requires empty { IfSome (map.get self.old (machine.under (path_of self.old directory) name.now)) (λ inode. machine.names_in self.old inode ≡ []) }
         ensures removed { self.new ≡ map.remove self.old (machine.under (path_of self.old directory) name.now) }
         ensures unnamed { IfSome (map.get self.old (machine.under (path_of self.old directory) name.now)) (HasNoPath self.new) }
+        ensures others { (other : ℕ) → HasPath self.old other → path_of self.old other ≢ machine.under (path_of self.old directory) name.now → HasPath self.new other × (path_of self.new other ≡ path_of self.old other) }
     {
         self.folders.take(directory, name);
+    }
+
+    /// Another name of the same mount or of another, where none is, to which all below a directory goes with it (C Library
+    /// Reference: `rename`). Takes no memory.
+    pub fn rename(&mut self, directory: u32, name: &[u8], target: u32, next: &[u8])
+        requires directory { HasPath self.old directory }
+        requires target { HasPath self.old target }
+        requires there { (inode : ℕ) × (map.get self.old (machine.under (path_of self.old directory) name.now) ≡ Some inode) }
+        requires free { map.get self.old (machine.under (path_of self.old target) next.now) ≡ None }
+        requires outside { machine.is_below (machine.under (path_of self.old directory) name.now) (path_of self.old target).0 (next.now ∷ (path_of self.old target).1) ≡ false }
+        requires short { length next.now ≤ COMPONENT }
+        ensures moved { self.new ≡ machine.moved self.old (machine.under (path_of self.old directory) name.now) (machine.under (path_of self.old target) next.now) }
+    {
+        self.folders.rename(directory, name, target, next);
     }
 
     /// Whether no names are in a directory.
@@ -156,6 +170,7 @@ impl Names {
     ) -> Result<Spot<'a>, Errno>
         ensures spot { spot_found self.now result ≡ machine.spot inodes.now.inodes self.now user.0 root rest.now at_root }
         ensures parent { IfOk result (λ at. HasPath self.now at.parent) }
+        ensures short { AreShort rest.now → IfOk result (λ at. length at.name.now ≤ COMPONENT) }
     {
         let mut components = rest.components();
         let Some(name) = components.next() else {
@@ -184,6 +199,43 @@ impl Names {
         at.inode.ok_or(Errno::ENOENT)
     }
 
+    /// Whether a path that can be walked goes through a directory, and on (C Library Reference: `rename`, EINVAL).
+    pub fn is_below(&self, root: u32, rest: &Rest<'_>, directory: u32) -> bool
+        requires there { HasPath self.now directory }
+        ensures { (inodes : of_inodes.Inodes) (user : ℕ) (error : Errno) (at : machine.Spot) → machine.spot inodes self.now user root rest.now error ≡ Ok at → result ≡ machine.is_below (path_of self.now directory) at.key.0 at.key.1 }
+    {
+        let mut components = rest.components();
+        let Some(name) = components.next() else {
+            return false;
+        };
+        let Ok(first) = self.start(root) else {
+            return false;
+        };
+        self.goes_through(first, name, components, directory)
+    }
+
+    /// The same from a mount's root along one name and further ones.
+    fn goes_through(&self, root: u32, name: &[u8], mut rest: Components<'_>, directory: u32) -> bool
+        requires root { map.get self.now (machine.root_key root) ≡ Some root }
+        requires there { HasPath self.now directory }
+        ensures { (inodes : of_inodes.Inodes) (user : ℕ) (at : machine.Spot) → machine.walk inodes self.now user root (machine.root_key root) name.now rest.entry ≡ Ok at → result ≡ machine.is_below (path_of self.now directory) at.key.0 at.key.1 }
+    {
+        self.named_once();
+        let mut parent = root;
+        let mut last = name;
+        while let Some(next) = rest.next() {
+            if parent == directory {
+                return true;
+            }
+            let Some(child) = self.entry(parent, last) else {
+                return false;
+            };
+            parent = child;
+            last = next;
+        }
+        parent == directory
+    }
+
     /// Where the path of a mount's root leads: to the root, else ENOENT.
     fn start(&self, root: u32) -> Result<u32, Errno>
         ensures start { result ≡ machine.start self.now root }
@@ -208,6 +260,7 @@ impl Names {
         requires root { map.get self.now (machine.root_key root) ≡ Some root }
         ensures spot { spot_found self.now result ≡ machine.walk inodes.now.inodes self.now user.0 root (machine.root_key root) name.now rest.entry }
         ensures parent { IfOk result (λ at. HasPath self.now at.parent) }
+        ensures short { length name.now ≤ COMPONENT → AreShort rest.entry → IfOk result (λ at. length at.name.now ≤ COMPONENT) }
     {
         self.named_once();
         let mut parent = root;

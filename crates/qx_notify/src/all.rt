@@ -136,8 +136,9 @@ impl AllEvents {
         Ok(Ok(()))
     }
 
-    /// What the notification of a user who may have so many events does, with its status: POLL polls, TRANARM arms, and POLLARM polls where a wanted
-    /// condition holds and else arms (C Library Reference: `iofunc_notify`). EAGAIN as `arm` gives it.
+    /// What the notification of a user who may have so many events does, with its status: POLL polls, TRANARM arms, and
+    /// POLLARM polls where a wanted condition holds and else arms (C Library Reference: `iofunc_notify`). EAGAIN as `arm`
+    /// gives it.
     pub fn notify(
         &mut self,
         most: usize,

@@ -22,7 +22,7 @@ use Rattle.qx_machine.specs.declared.rows.State.{State}
 use Rattle.qx_machine.specs.declared.rows.ThreadRow.{ThreadRow}
 use Rattle.qx_machine.specs.declared.rows.State.TheVariants.{Queued, Taken, Waiting}
 use Rattle.qx_paths.specs.Prefixes.{MountPoint}
-use Rattle.qx_machine.specs.Calls.{Address, Opens, Connects, Uses, Duplicates, may_call, target_at}
+use Rattle.qx_machine.specs.Calls.{Address, Opens, Connects, ConnectsBoth, Uses, Duplicates, may_call, target_at}
 use Rattle.qx_machine.specs.Processes.{Process, ready_thread}
 use Rattle.qx_isolation.specs.Judgements.{◌>>=◌, found, need, or_refused}
 use Rattle.qx_machine.specs.Clients as clients
@@ -94,6 +94,7 @@ pulse_gives part process (Some first) = record { gives = λ _. refl }
 address_refuses : (config : Configuration) (user : ℕ) (mounts : List MountPoint) (processes : List (Option Process)) (process : Process) (prio : Prio) (asked : Address) → Refuses may_end_call (target_at config user mounts processes process prio asked)
 address_refuses config user mounts processes process prio (Opens path) = search (refuses_on, needed, judged, value_refuses)
 address_refuses config user mounts processes process prio (Connects path) = search (refuses_on, needed, judged, value_refuses)
+address_refuses config user mounts processes process prio (ConnectsBoth path to) = search (refuses_on, needed, judged, value_refuses)
 address_refuses config user mounts processes process prio (Uses coid) = search (refuses_on, needed, looked_up, value_refuses)
 address_refuses config user mounts processes process prio (Duplicates coid) = search (refuses_on, needed, looked_up, value_refuses)
 

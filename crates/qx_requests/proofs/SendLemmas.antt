@@ -22,7 +22,7 @@ placed : (P : Addressed → Type 0) (serves : Bool) (addressed : Addressed) → 
 placed P true addressed p = p refl
 placed P false addressed p = tt
 
-pub place_attaches : (servers : ℕ) (processes : List (Option Process)) (process : Process) (place : Resolved) (over : Over) (prio : Prio) (given : Result Addressed Outcome) → given ≡ to_place servers processes process place over prio → servers ≤ SERVERS
+pub place_attaches : (servers : ℕ) (processes : List (Option Process)) (process : Process) (place : Resolved) (to : List (List ℕ)) (over : Over) (prio : Prio) (given : Result Addressed Outcome) → given ≡ to_place servers processes process place to over prio → servers ≤ SERVERS
     → (number : ℕ) → Some process ≡ row_at processes number → (HasPlace (servers_at place.manager process) → CanAttach process place.manager over) → IfOk given (λ addressed. CanAttachAt (row_at processes number) addressed.target)
-place_attaches servers processes process place over prio given is few number there attaches =
+place_attaches servers processes process place to over prio given is few number there attaches =
     rw (is, ← there) (placed (λ addressed. CanAttachAt (Some process) addressed.target) _ _ (λ serves. attaches (can_attach servers processes number process place.manager few (sym there) serves)))

@@ -4,6 +4,6 @@ use Rattle.qx_machine.specs.declared.rows.Over.{Over}
 use Rattle.qx_machine.specs.declared.rows.Over.TheVariants.{Existing}
 
 -- what goes over a connection that is there names no path
-abbrev pub HasRest : Over → List (List ℕ) → Type 0
-HasRest (Existing coid) rest = rest ≡ []
-HasRest _ rest = ⊤
+abbrev pub HasRest : Over → List (List ℕ) → List (List ℕ) → Type 0
+HasRest (Existing coid) rest to = (rest ≡ []) × (to ≡ [])
+HasRest _ rest to = ⊤

@@ -13,24 +13,43 @@ use qx_wire::ranges::{are_conditions, are_flags, is_name, is_offset};
 use qx_wire::{BorrowedBytes, Message, Rest, encode};
 use std::alloc::Global;
 
-/// The bytes that a request sends: the spelling of its message, with what its path has behind the mount, or a copy of its
-/// bytes. More than a few take the memory that is there (C Library Reference: `MsgSend`).
+/// The bytes that a request sends: the spelling of its message, with what its path has behind the mount, and so of a second
+/// one, or a copy of its bytes. More than a few take the memory that is there (C Library Reference: `MsgSend`).
 pub fn encoded(
     memory: &mut Vec<u8>,
     request: &Request,
     rest: &Path<'_>,
+    to: &Path<'_>,
 ) -> Result<MessageBytes, NoMemory>
-    requires sendable { IsTrue (can_send (content_of request.now rest.now)) }
-    ensures bytes { IfOk result (λ bytes. bytes ≡ bytes_of (content_of request.now rest.now)) }
-    ensures sure { rest.now ≡ [] → FitInto (bytes_of (content_of request.now rest.now)) (vec_capacity memory.old) → IsOk result }
-    ensures kept { OnOk result (vec_capacity memory.new ≡ kept_beside (bytes_of (content_of request.now rest.now)) (vec_capacity memory.old)) }
+    requires sendable { IsTrue (can_send (content_of request.now rest.now to.now)) }
+    ensures bytes { IfOk result (λ bytes. bytes ≡ bytes_of (content_of request.now rest.now to.now)) }
+    ensures sure { rest.now ≡ [] → to.now ≡ [] → FitInto (bytes_of (content_of request.now rest.now to.now)) (vec_capacity memory.old) → IsOk result }
+    ensures kept { OnOk result (vec_capacity memory.new ≡ kept_beside (bytes_of (content_of request.now rest.now to.now)) (vec_capacity memory.old)) }
     ensures err { OnErr result (vec_capacity memory.new ≡ vec_capacity memory.old) }
 {
-    let joined = joined(*memory.allocator(), rest)?;
-    match content_of(request, Rest::new(joined.as_slice())) {
+    let rest = joined(*memory.allocator(), rest)?;
+    let to = match request {
+        Request::Rename { .. } => second(*memory.allocator(), to)?,
+        _ => Bytes::new(*memory.allocator()),
+    };
+    match content_of(
+        request,
+        Rest::new(rest.as_slice()),
+        Rest::new(to.as_slice()),
+    ) {
         Content::Spelled(message) => encode(memory, &message),
         Content::Raw(bytes) => Ok(MessageBytes::joined(memory, bytes.as_slice(), &[], &[])?),
     }
+}
+
+/// What the second path of a rename has behind the mount. A function of its own, so that no other call goes through it.
+#[cold]
+#[inline(never)]
+fn second(alloc: Global, to: &Path<'_>) -> Result<Bytes, NoMemory>
+    ensures to { IfOk result (λ bytes. components_of bytes ≡ to.now) }
+    ensures sure { to.now ≡ [] → IsOk result }
+{
+    Ok(to.joined(alloc)?)
 }
 
 /// What a path has behind the mount, as it stands in a message; for nothing no memory is taken.
@@ -53,6 +72,7 @@ pub(crate) fn is_in_ranges(request: &Request) -> bool
     match request {
         Request::StatPath { .. }
         | Request::Unlink { .. }
+        | Request::Rename { .. }
         | Request::Close { .. }
         | Request::Dup { .. }
         | Request::Fstat { .. } => true,
@@ -84,15 +104,16 @@ pub(crate) fn is_in_ranges(request: &Request) -> bool
     }
 }
 
-/// What a request sends; of a path, what is behind its mount.
-fn content_of<'a>(request: &'a Request, rest: Rest<'a>) -> Content<'a>
-    ensures { result ≡ calls.content_of request.now rest.entry }
+/// What a request sends; of a path, what is behind its mount, and so of a second one.
+fn content_of<'a>(request: &'a Request, rest: Rest<'a>, to: Rest<'a>) -> Content<'a>
+    ensures { result ≡ calls.content_of request.now rest.entry to.entry }
 {
     Content::Spelled(match *request {
         Request::OpenPath { flags, mode, .. } => Message::Open { flags, mode, rest },
         Request::StatPath { .. } => Message::Stat { rest },
         Request::Unlink { .. } => Message::Unlink { rest },
         Request::Mkdir { mode, .. } => Message::Mknod { mode, rest },
+        Request::Rename { .. } => Message::Rename { from: rest, to },
         Request::Read { count, .. } => Message::Read { count },
         Request::Write { ref bytes, .. } => Message::Write {
             bytes: BorrowedBytes::new(bytes.as_slice()),

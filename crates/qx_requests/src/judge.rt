@@ -6,7 +6,9 @@ ghost use Rattle.qx_wire.specs.Rests.{is_rest};
 ghost use Rattle.qx_paths.specs.Mounts.{mounts_of};
 ghost use Rattle.qx_machine.specs.declared.rows.State.TheVariants.{Ready};
 ghost use Rattle.qx_machine.specs.Calls as calls;
-ghost use Rattle.qx_machine.specs.Calls.{Connects, Opens, can_send, content_of};
+ghost use Rattle.qx_machine.specs.declared.rows.Content.TheVariants.{Spelled};
+ghost use Rattle.qx_wire.specs.declared.message.Message.TheVariants as msg;
+ghost use Rattle.qx_machine.specs.Calls.{Connects, ConnectsBoth, Opens, can_send, content_of};
 ghost use Rattle.qx_machine.specs.Clients as clients;
 ghost use Rattle.qx_isolation.specs.Judgements.{or_refused};
 ghost use Rattle.qx_machine.specs.Parts.{thread_of};
@@ -26,7 +28,8 @@ use qx_types::{Coid, Config, Errno, LimitName, Limits, Prio, Request, Thread, Us
 
 /// Where a call of a thread goes, by the mounts and the processes of its user, or the outcome of one that sends nothing:
 /// `WrongState` where the thread is not there or not ready; then EINVAL for fields out of their ranges, EAGAIN where the
-/// thread's calls are used up; for a path, the errors of `read_path`, then those of `Mounts::resolve`; for a connection,
+/// thread's calls are used up; for a path, the errors of `read_path`, then those of `Mounts::resolve`, and for a second path
+/// the same, then EXDEV where it leads to another mount; for a connection,
 /// EBADF where it is not there; EMFILE where no connection is free for a new one; EAGAIN where the user has all its server
 /// connections at the manager. What is judged so can be sent, and what it goes over can be attached.
 pub fn target_by<'a>(
@@ -39,8 +42,8 @@ pub fn target_by<'a>(
     ensures ready { IfOk result (λ _. option_map (λ row. row.state) (thread_of thread.tid (row_at processes.now thread.proc.num)) ≡ Some Ready) }
     ensures countable { IfOk result (λ _. CanCall (thread_of thread.tid (row_at processes.now thread.proc.num))) }
     ensures goes { IfOk result (λ addressed. CanGo addressed.target) }
-    ensures sendable { IfOk result (λ addressed. IsTrue (can_send (content_of request.now addressed.rest))) }
-    ensures rest { IfOk result (λ addressed. HasRest addressed.target.over addressed.rest) }
+    ensures sendable { IfOk result (λ addressed. IsTrue (can_send (content_of request.now addressed.rest addressed.to))) }
+    ensures rest { IfOk result (λ addressed. HasRest addressed.target.over addressed.rest addressed.to) }
     ensures place { IfOk result (λ addressed. CanAttachAt (row_at processes.now thread.proc.num) addressed.target) }
     ensures target { result ≡ clients.target_by config.now thread.proc.user.0 (mounts_of mounts.now thread.proc.user.0) processes.now thread request.now }
 {
@@ -62,6 +65,10 @@ pub fn target_by<'a>(
             Ok(by_path(
                 config, mounts, processes, process, thread, path, is_opened, prio,
             )?)
+        }
+        Request::Rename { from, to } => {
+            let (from, to) = (from.as_slice(), to.as_slice());
+            Ok(by_paths(config, mounts, processes, process, thread, from, to, prio)?)
         }
         Request::Dup { coid } => {
             let connection = connection_at(process, *coid)?;
@@ -102,7 +109,7 @@ fn by_path<'a>(
     requires priority { IsPriority prio.0 }
     ensures goes { IfOk result (λ addressed. CanGo addressed.target) }
     ensures good { IfOk result (λ addressed. is_rest addressed.rest ≡ true) }
-    ensures rest { IfOk result (λ addressed. HasRest addressed.target.over addressed.rest) }
+    ensures rest { IfOk result (λ addressed. HasRest addressed.target.over addressed.rest addressed.to) }
     ensures place { IfOk result (λ addressed. CanAttachAt (row_at processes.now thread.proc.num) addressed.target) }
     ensures target { result ≡ calls.target_at config.now thread.proc.user.0 (mounts_of mounts.now thread.proc.user.0) processes.now process.now prio (if is_opened then Opens path.now else Connects path.now) }
 {
@@ -114,7 +121,38 @@ fn by_path<'a>(
         Over::Side
     };
     let servers = limits.get(LimitName::Servers);
-    Ok(to_place(servers, processes, process, place, over, prio)?)
+    let none = Path::empty();
+    Ok(to_place(servers, processes, process, place, none, over, prio)?)
+}
+
+/// A message of a thread to where two paths lead, which have to lead to one mount, over a side connection.
+#[inline(never)]
+fn by_paths<'a>(
+    config: &Config,
+    mounts: &Mounts,
+    processes: &Processes,
+    process: &Process,
+    thread: Thread,
+    path: &'a [u8],
+    to: &'a [u8],
+    prio: Prio,
+) -> Result<Addressed<'a>, Refusal>
+    requires there { Some process.now ≡ row_at processes.now thread.proc.num }
+    requires priority { IsPriority prio.0 }
+    ensures goes { IfOk result (λ addressed. CanGo addressed.target) }
+    ensures sendable { IfOk result (λ addressed. IsTrue (can_send (Spelled (msg.Rename addressed.rest addressed.to)))) }
+    ensures rest { IfOk result (λ addressed. HasRest addressed.target.over addressed.rest addressed.to) }
+    ensures place { IfOk result (λ addressed. CanAttachAt (row_at processes.now thread.proc.num) addressed.target) }
+    ensures target { result ≡ calls.target_at config.now thread.proc.user.0 (mounts_of mounts.now thread.proc.user.0) processes.now process.now prio (ConnectsBoth path.now to.now) }
+{
+    let place = place_of(config, thread.proc.user, mounts, path)?;
+    let other = place_of(config, thread.proc.user, mounts, to)?;
+    if place.root != other.root {
+        return Err(Refusal::refused(Errno::EXDEV));
+    }
+    let servers = config.limits(thread.proc.user).get(LimitName::Servers);
+    let (to, over) = (other.rest, Over::Side);
+    Ok(to_place(servers, processes, process, place, to, over, prio)?)
 }
 
 /// Whether a thread may make a call with these fields.
@@ -151,16 +189,18 @@ fn place_of<'a>(
     Ok(place)
 }
 
-/// A message to where a path leads, of a user who may have so many server connections at a manager.
+/// A message to where a path leads, of a user who may have so many server connections at a manager, with what another path
+/// has behind the same mount, or nothing.
 fn to_place<'a>(
     servers: usize,
     processes: &Processes,
     process: &Process,
     place: Resolved<'a>,
+    to: Path<'a>,
     over: Over,
     prio: Prio,
 ) -> Result<Addressed<'a>, Refusal>
-    ensures { result ≡ calls.to_place servers processes.now process.now place.entry over prio }
+    ensures { result ≡ calls.to_place servers processes.now process.now place.entry to.entry over prio }
 {
     if !processes.can_serve(servers, process, place.manager) {
         return Err(Refusal::refused(Errno::EAGAIN));
@@ -173,6 +213,7 @@ fn to_place<'a>(
             prio,
         },
         rest: place.rest,
+        to,
     })
 }
 
@@ -188,6 +229,7 @@ fn to_connection<'a>(connection: Connection, over: Over, prio: Prio) -> Addresse
             prio,
         },
         rest: Path::empty(),
+        to: Path::empty(),
     }
 }
 

@@ -1,7 +1,8 @@
-ghost use Rattle.std.specs.Prelude.{◌≡◌, ◌≤◌, ℕ, Bool, List, Result, false, [], Err, IfOk, IsOk, IsSome, IsTrue, OnErr, length};
+ghost use Rattle.std.specs.Prelude.{◌≡◌, ◌≤◌, ℕ, Bool, List, Result, false, true, [], Err, IfOk, IsOk, IsSome, IsTrue, OnErr, length};
 ghost use Rattle.qx_types.specs.declared.limits.TheConstants.Limits.{TRANSFER};
 ghost use Rattle.qx_errno.specs.declared.Errno.{Errno};
 ghost use Rattle.qx_errno.specs.declared.Errno.TheVariants.{ENOSYS};
+ghost use Rattle.qx_wire.specs.Rests.{is_rest};
 ghost use Rattle.qx_machine.specs.declared.rows.Effect.TheVariants.{Keeps};
 ghost use Rattle.qx_machine.specs.declared.rows.Opened.{Opened};
 ghost use Rattle.qx_machine.specs.Functions.{ConnectFunctions, IoFunctions, function_deed, no_connect, no_io};
@@ -86,6 +87,21 @@ pub trait Connect<S: State<W, T>, W, T> {
     ) -> Result<Done, Errno>
         requires fits { S.fits state.old waits.old }
         ensures did { Did S.State state.old waits.old state.new waits.new [] result (function_deed (connect self.now).unlink root (λ f root. f (S.told state.old waits.old) root rest.now moment)) }
+        ensures replied { IsReplied result };
+
+    /// Gives what a path leads to another one, in the same mount.
+    fn rename(
+        &self,
+        state: &mut S,
+        waits: &mut W,
+        root: Result<u32, Errno>,
+        from: &Rest<'_>,
+        to: &Rest<'_>,
+        moment: u64,
+    ) -> Result<Done, Errno>
+        requires fits { S.fits state.old waits.old }
+        requires good { is_rest to.now ≡ true }
+        ensures did { Did S.State state.old waits.old state.new waits.new [] result (function_deed (connect self.now).rename root (λ f root. f (S.told state.old waits.old) root from.now to.now moment)) }
         ensures replied { IsReplied result };
 
     /// Makes a directory. It may want memory.

@@ -82,6 +82,9 @@ pub fn serve<M: Connect<S, W, T> + Io<S, W, T>, S: State<W, T>, W, T>(
             reply,
         ),
         Message::Unlink { rest } => manager.unlink(state, waits, side_root(target), &rest, moment),
+        Message::Rename { from, to } => {
+            manager.rename(state, waits, side_root(target), &from, &to, moment)
+        }
         Message::Read { count } => manager.read(state, waits, opened, count, reply, room),
         Message::Close => manager.close(state, waits, opened),
         Message::Dup { .. } => manager.dup(state, waits, new_dup(context)),

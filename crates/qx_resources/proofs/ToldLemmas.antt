@@ -58,6 +58,7 @@ pipe-cases r context (Known (msg.Open flags mode rest)) given = inl refl
 pipe-cases r context (Known (msg.Stat rest)) given = inl refl
 pipe-cases r context (Known (msg.Unlink rest)) given = inl refl
 pipe-cases r context (Known (msg.Mknod mode rest)) given = inl refl
+pipe-cases r context (Known (msg.Rename from to)) given = inl refl
 pipe-cases r context (Known msg.Close) given = inl refl
 pipe-cases r context (Known (msg.Dup old)) given = inl refl
 pipe-cases r context (Known (msg.Lseek whence offset)) given = inl refl

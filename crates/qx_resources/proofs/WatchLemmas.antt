@@ -35,7 +35,7 @@ use Rattle.qx_resources.proofs.WatchCloses.{close_dup-settled}
 use Rattle.qx_resources.proofs.WatchFacts.{IsEnough, still-settled}
 use Rattle.qx_machine.proofs.Gives.{Gives, gives_error, gives_more, gives_on, gives-value}
 use Rattle.qx_resources.proofs.WatchOpens.{directory-still, open-still}
-use Rattle.qx_resources.proofs.WatchOthers.{chmod-still, dup-still, list-still, notify-still, seek_pipe-still, stat_block-still, stat_path-still, unlink-still}
+use Rattle.qx_resources.proofs.WatchOthers.{chmod-still, dup-still, list-still, notify-still, rename-still, seek_pipe-still, stat_block-still, stat_path-still, unlink-still}
 
 -- it is enough to watch what is watched for a message over this
 abbrev IsSettled : Resources → Meaning → Result Opened Errno → Deed Resources → Type 0
@@ -61,6 +61,7 @@ module _ (r : Resources) (no_stale : HasNoStalePipe r) (context : Context) where
   ram-settled (msg.Stat rest) = still r (msg.Stat rest) context.opened _ refl (gives_on _ (side_root context.target) _ (λ root is. stat_path-still r root rest context.moment))
   ram-settled (msg.Unlink rest) = still r (msg.Unlink rest) context.opened _ refl (gives_on _ (side_root context.target) _ (λ root is. unlink-still kind.File r root rest context.moment))
   ram-settled (msg.Mknod mode rest) = still r (msg.Mknod mode rest) context.opened _ refl (gives_on _ (side_root context.target) _ (λ root is. directory-still r no_stale root mode rest context.moment))
+  ram-settled (msg.Rename from to) = still r (msg.Rename from to) context.opened _ refl (gives_on _ (side_root context.target) _ (λ root is. rename-still kind.File r root from to context.moment))
   ram-settled (msg.Read count) = over_opened r (Known (msg.Read count)) context.opened _ (λ over. read_file-settled r over count)
   ram-settled (msg.Write bytes) = over_opened r (Known (msg.Write bytes)) context.opened _ (λ over. write_file-settled r over bytes)
   ram-settled msg.Close = over_opened r (Known msg.Close) context.opened _ (λ over. close_dup-settled kind.File r over)
@@ -76,6 +77,7 @@ module _ (r : Resources) (no_stale : HasNoStalePipe r) (context : Context) where
   pipe-settled own (msg.Stat rest) = still r (msg.Stat rest) context.opened _ refl (gives_on _ (side_root context.target) _ (λ root is. stat_path-still r root rest context.moment))
   pipe-settled own (msg.Unlink rest) = still r (msg.Unlink rest) context.opened _ refl (gives_on _ (side_root context.target) _ (λ root is. unlink-still own r root rest context.moment))
   pipe-settled own (msg.Mknod mode rest) = gives_error _ _
+  pipe-settled own (msg.Rename from to) = gives_error _ _
   pipe-settled own (msg.Read count) = over_opened r (Known (msg.Read count)) context.opened _ (λ over. read_pipe-settled r over count)
   pipe-settled own (msg.Write bytes) = over_opened r (Known (msg.Write bytes)) context.opened _ (λ over. write_pipe-settled r over bytes)
   pipe-settled own msg.Close = over_opened r (Known msg.Close) context.opened _ (λ over. close_dup-settled own r over)

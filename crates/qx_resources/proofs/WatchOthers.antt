@@ -1,8 +1,9 @@
--- What an unlink comes to, and what tells or arms alone: nothing comes to hold.
+-- What an unlink and a rename come to, and what tells or arms alone: nothing comes to hold.
 use Rattle.std.proofs.Common.{◌≡◌, inl, ℕ, true, not, ◌==◌, refl, sym, ap, ◌∙◌, arith, Option, Some, None, ◌≢◌, List, slice_set, count_by}
 use Rattle.std.proofs.lemmas.Bool.{false≢true, eqb-true, cond_both, and_parts}
-use Rattle.std.specs.Prelude.{ℤ, ◌+◌, nat_lt}
-use Rattle.qx_errno.specs.declared.Errno.TheVariants.{EBADF, EINVAL, EMFILE, ENOENT, EBUSY, ENOTDIR, ENOTEMPTY, EPERM, ESPIPE}
+use Rattle.std.specs.Prelude.{ℤ, ◌+◌, ◌&&◌, ◌||◌, length, nat_lt}
+use Rattle.std.specs.FinMap.{remove}
+use Rattle.qx_errno.specs.declared.Errno.TheVariants.{EBADF, EINVAL, EMFILE, ENOENT, EBUSY, EISDIR, ENOTDIR, ENOTEMPTY, EPERM, ESPIPE}
 use Rattle.qx_types.specs.declared.fields.NotifyAction.{NotifyAction}
 use Rattle.qx_types.specs.declared.fields.Whence.{Whence}
 use Rattle.qx_types.specs.declared.limits.TheConstants.Limits.{LAST_CONNECTION}
@@ -15,11 +16,11 @@ use Rattle.qx_machine.specs.declared.rows.Opened.{Opened}
 use Rattle.qx_machine.specs.declared.rows.PulseWish.{PulseWish}
 use Rattle.qx_machine.specs.declared.rows.WaitingCall.{WaitingCall}
 use Rattle.qx_machine.specs.Attributes.{top_inode}
-use Rattle.qx_machine.specs.Defaults.{dup_open, is_own, without_unused, writable, chmod_block, list_block, stat_block, stat_path, unlink_path, without_name}
+use Rattle.qx_machine.specs.Defaults.{cleared, dup_open, is_own, rename_path, rename_to, unnamed, with_both_changed, without_unused, writable, chmod_block, list_block, stat_block, stat_path, unlink_path, without_name}
 use Rattle.qx_machine.specs.Events.{notified}
 use Rattle.qx_machine.specs.Inodes.{dup_block, is_open, Inodes, free_inode, is_unused, with_attribute}
 use Rattle.qx_isolation.specs.Judgements.{found, need}
-use Rattle.qx_machine.specs.Names.{is_directory, spot, is_empty, names_in, inode_at}
+use Rattle.qx_machine.specs.Names.{Spot, is_below, is_directory, is_same_key, spot, is_empty, names_in, inode_at}
 use Rattle.qx_machine.specs.Notification.{conditions_at, event_of, notify_block}
 use Rattle.qx_machine.specs.PipeManager.{seek_pipe}
 use Rattle.qx_machine.specs.Pipes.{Pipe}
@@ -31,7 +32,7 @@ use Rattle.qx_attr.specs.inner.Counts.{one}
 use Rattle.qx_resources.proofs.WatchCloses.{free-blocks}
 use Rattle.qx_resources.proofs.WatchDeeds.{GivesStill, moved-still}
 use Rattle.qx_resources.proofs.WatchFacts.{IsStill}
-use Rattle.qx_machine.proofs.Gives.{Gives, found-row, gives_by, gives_done, gives_on, gives_error}
+use Rattle.qx_machine.proofs.Gives.{Gives, found-row, gives_by, gives_done, gives_if, gives_on, gives_error}
 use Rattle.qx_resources.proofs.WatchOpens.{grows-still, same-grows, same-still}
 use Rattle.qx_machine.specs.declared.rows.Kind.TheVariants as kind
 
@@ -80,6 +81,33 @@ unlink-still own r root rest moment =
     gives_on _ (found (row_at r.inodes.attributes inode) ENOENT) _ (λ attribute has.
     gives_on _ (need (is_own own attribute.kind) ENOENT) _ (λ mine is_mine.
     gives_done _ _ (unused-still own r (without_name at parent inode attribute moment r) inode refl refl)))))))
+
+cleared-still : (own : Kind) (r s : Resources) (attribute : Attribute) (to : Spot) (there : Option ℕ) (moment : ℕ) → s.inodes.blocks ≡ r.inodes.blocks → s.pipes ≡ r.pipes → Gives (IsStill r) (cleared own attribute to there moment s)
+cleared-still own r s attribute to None moment blocks pipes = gives_done _ _ (same-still r s blocks pipes)
+cleared-still own r s attribute to (Some there) moment blocks pipes =
+    gives_on _ (found (row_at s.inodes.attributes there) ENOENT) _ (λ target is.
+    gives_on _ (need (is_directory target.kind || not (is_directory attribute.kind)) ENOTDIR) _ (λ onto is_onto.
+    gives_on _ (need (is_directory attribute.kind || not (is_directory target.kind)) EISDIR) _ (λ no_directory is_none.
+    gives_on _ (need (is_empty (names_in s.names there)) ENOTEMPTY) _ (λ empty is_empty.
+    gives_on _ (need (is_own own target.kind) ENOENT) _ (λ mine is_mine.
+    gives_done _ _ (unused-still own r (record s { inodes = with_attribute s.inodes there (unnamed moment target); names = remove s.names to.key }) there blocks pipes))))))
+
+rename_to-still : (own : Kind) (r : Resources) (from : Spot) (inode : ℕ) (parent : Attribute) (to : Spot) (other : Attribute) (moment : ℕ) → GivesStill r (rename_to own r from inode parent to other moment)
+rename_to-still own r from inode parent to other moment =
+    gives_on _ (found (row_at r.inodes.attributes inode) ENOENT) _ (λ attribute has.
+    gives_on _ (need (not (is_below from.key to.key.0 to.key.1)) EINVAL) _ (λ outside is_outside.
+    gives_by (IsStill r) _ (cleared own attribute to to.inode moment (with_both_changed from parent to other moment r)) _ (cleared-still own r (with_both_changed from parent to other moment r) attribute to to.inode moment refl refl) (λ free still.
+    gives_done _ _ still)))
+
+pub rename-still : (own : Kind) (r : Resources) (root : ℕ) (old new : List (List ℕ)) (moment : ℕ) → GivesStill r (rename_path own r root old new moment)
+rename-still own r root old new moment =
+    gives_on _ (need (not (length old == 0) && not (length new == 0)) EBUSY) _ (λ named is_named.
+    gives_on _ (spot r.inodes r.names r.user root old EBUSY) _ (λ from is_from.
+    gives_on _ (found from.inode ENOENT) _ (λ inode there.
+    gives_on _ (spot r.inodes r.names r.user root new EBUSY) _ (λ to is_to.
+    gives_on _ (writable r.inodes r.user from.parent) _ (λ parent is_parent.
+    gives_on _ (writable r.inodes r.user to.parent) _ (λ other is_other.
+    gives_if _ (is_same_key from.key to.key) _ _ (gives_done _ _ (same-still r r refl refl)) (rename_to-still own r from inode parent to other moment)))))))
 
 -- ---- a connection more
 

@@ -78,6 +78,18 @@ impl Connect<Resources, Tables, Told> for Pipe {
         unlinked.map(|_| Done::keeps(0))
     }
 
+    fn rename(
+        &self,
+        _state: &mut Resources,
+        _tables: &mut Tables,
+        _root: Result<u32, Errno>,
+        _from: &Rest<'_>,
+        _to: &Rest<'_>,
+        _moment: u64,
+    ) -> Result<Done, Errno> {
+        no_function()
+    }
+
     fn mknod(
         &self,
         _state: &mut Resources,

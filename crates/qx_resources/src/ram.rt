@@ -63,6 +63,20 @@ impl Connect<Resources, Tables, Told> for Ram {
         unlinked.map(|_| Done::keeps(0))
     }
 
+    #[inline(never)]
+    fn rename(
+        &self,
+        state: &mut Resources,
+        _tables: &mut Tables,
+        root: Result<u32, Errno>,
+        from: &Rest<'_>,
+        to: &Rest<'_>,
+        moment: u64,
+    ) -> Result<Done, Errno> {
+        let renamed = state.store.rename(root?, from, to, moment);
+        renamed.map(|_| Done::keeps(0))
+    }
+
     fn mknod(
         &self,
         state: &mut Resources,

@@ -1,11 +1,11 @@
 -- A good script has a configuration, and asks for what a line can say.
-use Rattle.std.proofs.Common.{◌≡◌, ℕ, ◌+◌, ◌<◌, ◌≤◌, Bool, true, false, eqb, leb, ltb, not, List, [], ◌∷◌, ◌++◌, Option, Some, None, length, refl, ap, subst, arith, ◌∙◌}
+use Rattle.std.proofs.Common.{◌≡◌, ℕ, ◌+◌, ◌<◌, ◌≤◌, Bool, true, false, eqb, leb, ltb, not, List, [], ◌∷◌, ◌++◌, Option, Some, None, length, refl, ap, subst, arith}
 use Rattle.std.specs.Prelude.{◌&&◌, All, IfSome, is_none, option_map, replicate, unwrap_or}
 use Rattle.std.specs.List.{list_all, list_any}
 use Rattle.std.specs.Str.{bytes_eq}
 use Rattle.std.proofs.lemmas.Bool.Decides.{nat_tests}
-use Rattle.std.proofs.lemmas.List.Elements.{All-map, All-nil, All-push, All-set}
-use Rattle.std.proofs.lemmas.List.{length-map, length-set, length_push}
+use Rattle.std.proofs.lemmas.List.Elements.{All-nil, All-push}
+use Rattle.std.proofs.lemmas.List.{length_push}
 use Rattle.std.proofs.lemmas.Option.{cond_some}
 use Rattle.qx_types.specs.Configuration.{Configuration, HasLimits, IsConfiguration, is_user_name}
 use Rattle.qx_types.specs.declared.limits.TheConstants.Limits.{USERS, WORKERS}
@@ -21,8 +21,6 @@ use Rattle.qx_words.specs.Kinds.{is_word}
 use Rattle.qx_script.specs.Script.{Bad, Good, Reading, Script, after_line, after_setting, after_user, after_words, after_workers, is_before_commands, is_new_user, is_skipped, script, script_from, unread, with_command, with_setting, with_user, with_workers}
 use Rattle.qx_words.specs.Words.{lines_of, words_of}
 use Rattle.qx_words.proofs.PlainWords.{both_true}
-use Rattle.qx_types.specs.declared.names.User.{User}
-use Rattle.qx_words.specs.Words.{greatest_byte}
 use Rattle.qx_script.proofs.ReadCommands.{CanSayCommand, command_within}
 use Rattle.qx_calls.proofs.ReadForms.{by_name, line_within}
 use Rattle.qx_words.proofs.ReadValues.{bind_some, is_in_line, lines_are_lines, mapped, of_some, words_are_words}

@@ -10,7 +10,8 @@ use std::alloc::AllocError;
 /// path is judged as a path, and a connection by whether it is there.
 #[derive(Debug, Drop, PartialEq, Eq)]
 pub enum Request {
-    // Bytes stand last in each, behind what has place beside the kind: so a request takes 32 bytes.
+    // Bytes stand last in each, behind what has place beside the kind. So a request would take 32 bytes, but that a rename has
+    // two paths: it takes 56.
     /// Opens a name (C Library Reference: `open`). The mode has at most the bits 0777.
     OpenPath {
         flags: OFlags,
@@ -29,6 +30,11 @@ pub enum Request {
     Mkdir {
         mode: u16,
         path: Bytes,
+    },
+    /// Gives what has a name another one in the same mount (C Library Reference: `rename`).
+    Rename {
+        from: Bytes,
+        to: Bytes,
     },
     /// Reads at most `count` bytes, of which there may be 0 to 4,096 (C Library Reference: `read`).
     Read {
@@ -113,6 +119,10 @@ impl Clone for Request {
             Request::Mkdir { path, mode } => Request::Mkdir {
                 path: path.clone()?,
                 mode: *mode,
+            },
+            Request::Rename { from, to } => Request::Rename {
+                from: from.clone()?,
+                to: to.clone()?,
             },
             Request::Read { coid, count } => Request::Read {
                 coid: *coid,

@@ -1,6 +1,5 @@
-ghost use Rattle.std.specs.Prelude.{◌≡◌, ◌≤◌, IfOk, IsOk, ◌↔◌};
+ghost use Rattle.std.specs.Prelude.{◌≡◌, ◌≤◌};
 ghost use Rattle.qx_types.specs.UserLimits.{AreLimits, IsWithin, default_limits, limit_in, most_of, with_limit};
-ghost use Rattle.qx_types.specs.declared.limits.TheConstants.Limits.{PRIORITY};
 
 use crate::limits::Limits;
 use crate::names::Prio;

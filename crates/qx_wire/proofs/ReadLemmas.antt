@@ -1,10 +1,12 @@
 -- For each message: what is read as it has its spelling, and its spelling is read as it.
 use Rattle.std.proofs.Common.{◌≡◌, ℕ, ◌^◌, ◌<◌, ℤ, pos, negsuc, true, eqb, ltb, leb, List, [], ◌++◌, length, Option, Some, refl, sym, ap, subst, ◌∙◌, arith}
 use Rattle.std.specs.List.{list_all}
+use Rattle.std.specs.Prelude.{drop, take}
 use Rattle.std.specs.Int.{w8, w16, w32, w64, to_le_bytes, cast_signed, cast_unsigned}
-use Rattle.std.proofs.lemmas.List.{append-nil}
+use Rattle.std.proofs.Math.Seq.{drop-append_seam, take-append_seam}
+use Rattle.std.proofs.lemmas.List.{append-nil, length-append, length-take-le, take-append-drop}
 use Rattle.std.proofs.lemmas.Option.{same_Some}
-use Rattle.std.proofs.lemmas.Bool.{eqb-true, ltb-true}
+use Rattle.std.proofs.lemmas.Bool.{eqb-true, le-leb, leb-true, ltb-true}
 use Rattle.std.proofs.lemmas.Bool.Decides.{nat_tests}
 use Rattle.std.proofs.lemmas.Int.{of_z-to_z, to_z-of_z}
 use mir.Val.{SFits}
@@ -19,7 +21,7 @@ use Rattle.qx_types.specs.declared.fields.NotifyAction.{NotifyAction}
 use Rattle.qx_types.specs.declared.fields.PulseValue.TheVariants.{Bits32, Bits64}
 use Rattle.qx_wire.specs.Rests.{joined, components_of, is_component, is_rest}
 use Rattle.qx_wire.specs.Table.{row, body, in_ranges, is_i64, whence_number, action_number}
-use Rattle.qx_wire.specs.Reading.{ended, open_at, mknod_at, read_at, dup_at, lseek_at, chmod_at, notify_at, notify_64_at}
+use Rattle.qx_wire.specs.Reading.{ended, open_at, mknod_at, read_at, dup_at, lseek_at, chmod_at, notify_at, notify_64_at, rename_at}
 use Rattle.qx_wire.proofs.RestLemmas.{joined_components, components_joined}
 use Rattle.qx_wire.proofs.FieldLemmas.{IsBytes, some_else_none, and_true, wide8, wide16, wide32, wide64, peel, put_back, number_again, ended_some}
 
@@ -100,6 +102,29 @@ mknod_again mode rest e =
     let mode_fits : mode < 2 ^ 16 = grind (arith, nat_tests) in
     let good : is_rest rest ≡ true = grind (arith, nat_tests) in
     rw (number_again w16 (2 ^ 16) wide16 2 (to_le_bytes w16 mode ++ (joined rest ++ [])) two, number_again w16 (2 ^ 16) wide16 mode (joined rest ++ []) mode_fits, rest_again rest good) refl
+
+-- ---- RENAME
+
+pub rename_takes : (bytes : List ℕ) → IsBytes bytes → Takes 256 5 bytes (rename_at bytes)
+unfolding rename_at
+rename_takes bytes fits m e =
+    let f = peel w16 (2 ^ 16) wide16 bytes _ m fits e in
+    let from = take f.n f.rest in
+    let to = drop f.n f.rest in
+    let g = some_else_none (leb f.n (length f.rest)) (Some (msg.Rename (components_of from) (components_of to))) m f.goes_on in
+    let len : length (joined (components_of from)) ≡ f.n = ap length (joined_components from) ∙ length-take-le f.n f.rest (leb-true _ _ g.0) in
+    let texts : joined (components_of from) ++ (joined (components_of to) ++ []) ≡ f.rest = rw (joined_components from, all to (joined (components_of to)) (joined_components to)) (take-append-drop f.n f.rest) in
+    subst (λ (m : Message). Has 256 5 bytes m) (same_Some _ _ g.1) (record { type = refl; subtype = refl; body = ap (λ (n : ℕ). to_le_bytes w16 n ++ (joined (components_of from) ++ (joined (components_of to) ++ []))) len ∙ put_back f _ texts })
+
+pub rename_again : (from to : List (List ℕ)) → in_ranges (msg.Rename from to) ≡ true → rename_at (body (row (msg.Rename from to)).fields) ≡ Some (msg.Rename from to)
+unfolding rename_at
+rename_again from to e =
+    let good : is_rest from ≡ true = grind (arith, nat_tests) in
+    let good_to : is_rest to ≡ true = grind (arith, nat_tests) in
+    let first = and_true (leb (length (joined from)) PATH) (list_all is_component from) good in
+    let few : length (joined from) < 2 ^ 16 = let short = leb-true _ _ first.0 in omega (arith, short) in
+    let long : leb (length (joined from)) (length (joined from ++ (joined to ++ []))) ≡ true = le-leb _ _ (let sum = length-append (joined from) (joined to ++ []) in omega (arith, sum)) in
+    rw (number_again w16 (2 ^ 16) wide16 (length (joined from)) (joined from ++ (joined to ++ [])) few, long, take-append_seam, drop-append_seam, rest_again to good_to, components_joined from first.1) refl
 
 -- ---- WRITE, LIST
 

@@ -18,9 +18,9 @@ use Rattle.qx_types.specs.declared.fields.PulseValue.TheVariants.{Bits32, Bits64
 use Rattle.qx_wire.specs.Rests.{joined, components_of, is_component, is_rest}
 use Rattle.qx_wire.specs.Table.{row, body, in_ranges, framed, spelling, Spells, IsOfNoKind}
 use Rattle.qx_wire.specs.Laws.{IfKnown}
-use Rattle.qx_wire.specs.Reading.{ended, open_at, mknod_at, read_at, dup_at, lseek_at, chmod_at, notify_at, notify_64_at, known_or_malformed, Case, cases, meaning_found, body_cut, Frame, frame_at, frame_cut, cut, judged, judged_where, meaning}
+use Rattle.qx_wire.specs.Reading.{ended, open_at, mknod_at, read_at, rename_at, dup_at, lseek_at, chmod_at, notify_at, notify_64_at, known_or_malformed, Case, cases, meaning_found, body_cut, Frame, frame_at, frame_cut, cut, judged, judged_where, meaning}
 use Rattle.qx_wire.proofs.FieldLemmas.{IsBytes, some_else_none, and_true, wide16, wide32, peel, put_back, number_again}
-use Rattle.qx_wire.proofs.ReadLemmas.{Has, Takes, open_takes, open_again, stat_takes, unlink_takes, rest_again, mknod_takes, mknod_again, read_takes, read_again, write_takes, list_takes, close_takes, fstat_takes, dup_takes, dup_again, lseek_takes, lseek_again, chmod_takes, chmod_again, notify_takes, notify_again, notify_64_takes, notify_64_again}
+use Rattle.qx_wire.proofs.ReadLemmas.{Has, Takes, open_takes, open_again, stat_takes, unlink_takes, rest_again, mknod_takes, mknod_again, rename_takes, rename_again, read_takes, read_again, write_takes, list_takes, close_takes, fstat_takes, dup_takes, dup_again, lseek_takes, lseek_again, chmod_takes, chmod_again, notify_takes, notify_again, notify_64_takes, notify_64_again}
 
 -- ---- cases
 
@@ -43,6 +43,7 @@ are_cases bytes fits =
     record { takes = stat_takes bytes; kind = (msg.Stat [], refl, refl) } ⊗
     record { takes = unlink_takes bytes; kind = (msg.Unlink [], refl, refl) } ⊗
     record { takes = mknod_takes bytes fits; kind = (msg.Mknod 0 [], refl, refl) } ⊗
+    record { takes = rename_takes bytes fits; kind = (msg.Rename [] [], refl, refl) } ⊗
     record { takes = read_takes bytes fits; kind = (msg.Read 0, refl, refl) } ⊗
     record { takes = write_takes bytes; kind = (msg.Write [], refl, refl) } ⊗
     record { takes = close_takes bytes; kind = (msg.Close, refl, refl) } ⊗
@@ -106,6 +107,7 @@ has_case (msg.Open f mode rest) bytes e = cut_not_unknown (open_at bytes) e
 has_case (msg.Stat rest) bytes e = cut_not_unknown (Some (msg.Stat (components_of bytes))) e
 has_case (msg.Unlink rest) bytes e = cut_not_unknown (Some (msg.Unlink (components_of bytes))) e
 has_case (msg.Mknod mode rest) bytes e = cut_not_unknown (mknod_at bytes) e
+has_case (msg.Rename from to) bytes e = cut_not_unknown (rename_at bytes) e
 has_case (msg.Read n) bytes e = cut_not_unknown (read_at bytes) e
 has_case (msg.Write payload) bytes e = cut_not_unknown (Some (msg.Write bytes)) e
 has_case msg.Close bytes e = cut_not_unknown (ended bytes msg.Close) e
@@ -135,6 +137,16 @@ rest_short rest good =
     let short : length (joined rest) ≤ PATH = leb-true _ _ (and_true (leb (length (joined rest)) PATH) (list_all is_component rest) good).0 in
     omega (arith, length-append (joined rest) [])
 
+rename_short : (from to : List (List ℕ)) → is_rest from ≡ true → is_rest to ≡ true → length (to_le_bytes w16 (length (joined from)) ++ (joined from ++ (joined to ++ []))) ≤ BODY
+rename_short from to good good_to =
+    let first = rest_short from good in
+    let second = rest_short to good_to in
+    let one = length-append (joined from) [] in
+    let len = wide16.len (length (joined from)) in
+    let all = length-append (to_le_bytes w16 (length (joined from))) (joined from ++ (joined to ++ [])) in
+    let both = length-append (joined from) (joined to ++ []) in
+    omega (arith, first, second, one, len, all, both)
+
 name_short : (after : List ℕ) → (eqb (length after) 0 || is_component after) ≡ true → length after ≤ COMPONENT
 name_short after good = grind (arith, nat_tests)
 
@@ -146,6 +158,7 @@ is_read (msg.Open f mode rest) e = record { again = ap known_or_malformed (open_
 is_read (msg.Stat rest) e = record { again = ap known_or_malformed (ap (λ (r : List (List ℕ)). Some (msg.Stat r)) (rest_again rest (and_true (is_rest rest) true e).0)); type = omega arith; subtype = omega arith; short = let r = rest_short rest (and_true (is_rest rest) true e).0 in omega arith }
 is_read (msg.Unlink rest) e = record { again = ap known_or_malformed (ap (λ (r : List (List ℕ)). Some (msg.Unlink r)) (rest_again rest (and_true (is_rest rest) true e).0)); type = omega arith; subtype = omega arith; short = let r = rest_short rest (and_true (is_rest rest) true e).0 in omega arith }
 is_read (msg.Mknod mode rest) e = record { again = ap known_or_malformed (mknod_again mode rest e); type = omega arith; subtype = omega arith; short = let r = rest_short rest (grind (arith, nat_tests)) in omega arith }
+is_read (msg.Rename from to) e = record { again = ap known_or_malformed (rename_again from to e); type = omega arith; subtype = omega arith; short = rename_short from to (grind (arith, nat_tests)) (grind (arith, nat_tests)) }
 is_read (msg.Read n) e = record { again = ap known_or_malformed (read_again n e); type = omega arith; subtype = omega arith; short = omega arith }
 is_read (msg.Write payload) e = record { again = ap known_or_malformed (ap (λ (b : List ℕ). Some (msg.Write b)) (append-nil payload)); type = omega arith; subtype = omega arith; short = let r = plain_short payload TRANSFER (leb-true _ _ (and_true (leb (length payload) TRANSFER) true e).0) in omega arith }
 is_read (msg.Dup old) e = record { again = ap known_or_malformed (dup_again old e); type = omega arith; subtype = omega arith; short = omega arith }

@@ -37,6 +37,11 @@ mknod_at body = do
   mode ← number_at w16 kind.1
   if kind.0 == 2 then Some (msg.Mknod mode.0 (components_of mode.1)) else None
 
+unfoldable pub rename_at : List ℕ → Option Message
+rename_at body = do
+  len ← number_at w16 body
+  if nat_le len.0 (length len.1) then Some (msg.Rename (components_of (take len.0 len.1)) (components_of (drop len.0 len.1))) else None
+
 unfoldable pub read_at : List ℕ → Option Message
 read_at body = do
   count ← number_at w32 body
@@ -88,6 +93,7 @@ cases body =
     case 256 2 (Some (msg.Stat (components_of body))) ∷
     case 256 3 (Some (msg.Unlink (components_of body))) ∷
     case 256 4 (mknod_at body) ∷
+    case 256 5 (rename_at body) ∷
     case 257 0 (read_at body) ∷
     case 258 0 (Some (msg.Write body)) ∷
     case 259 0 (ended body msg.Close) ∷

@@ -9,7 +9,7 @@ use Rattle.qx_types.specs.declared.fields.PulseValue.{PulseValue}
 use Rattle.qx_types.specs.declared.fields.PulseValue.TheVariants.{Bits32, Bits64}
 use Rattle.qx_types.specs.declared.fields.Whence.{Whence}
 use Rattle.qx_types.specs.declared.fields.Whence.TheVariants as whence
-use Rattle.qx_types.specs.declared.limits.TheConstants.Limits.{BODY, FIRST_CONNECTION, LAST_CONNECTION, MODE, PULSE_CODE, PULSE_VALUE, PULSE_VALUE_64, TRANSFER}
+use Rattle.qx_types.specs.declared.limits.TheConstants.Limits.{BODY, FIRST_CONNECTION, LAST_CONNECTION, MODE, PATH, PULSE_CODE, PULSE_VALUE, PULSE_VALUE_64, TRANSFER}
 use Rattle.qx_wire.specs.declared.message.Message.{Message}
 use Rattle.qx_wire.specs.declared.message.Message.TheVariants as msg
 use Rattle.qx_wire.specs.Rests.{joined, is_component, is_rest}
@@ -69,6 +69,10 @@ pulse_value (Bits64 n) = number w64 (λ n. nat_le n PULSE_VALUE_64) n
 abbrev pub rest : List (List ℕ) → Field
 rest components = record { bytes = joined components; good = is_rest components }
 
+-- how many bytes the rest behind it has, where another one follows that
+abbrev pub rest_length : List (List ℕ) → Field
+rest_length components = number w16 (λ n. nat_le n PATH) (length (joined components))
+
 -- one component, or nothing
 abbrev pub name : List ℕ → Field
 name bytes = record { bytes = bytes; good = length bytes == 0 || is_component bytes }
@@ -109,6 +113,7 @@ row (msg.Open f m r) = line 256 1 (flags f.0 ∷ mode m ∷ rest r ∷ [])
 row (msg.Stat r) = line 256 2 (rest r ∷ [])
 row (msg.Unlink r) = line 256 3 (rest r ∷ [])
 row (msg.Mknod m r) = line 256 4 (directory ∷ mode m ∷ rest r ∷ [])
+row (msg.Rename from to) = line 256 5 (rest_length from ∷ rest from ∷ rest to ∷ [])
 row (msg.Read n) = line 257 0 (count n ∷ [])
 row (msg.Write bytes) = line 258 0 (payload bytes ∷ [])
 row msg.Close = line 259 0 []

@@ -26,6 +26,11 @@ pub enum Message<'a> {
         mode: u16,
         rest: Rest<'a>,
     },
+    /// Gives what has a name another one, in the same mount (`_IO_CONNECT_RENAME`). Both are behind the root of that.
+    Rename {
+        from: Rest<'a>,
+        to: Rest<'a>,
+    },
     /// Reads at most `count` bytes, of which there may be 0 to 4,096 (`_IO_READ`).
     Read {
         count: u32,

@@ -2,7 +2,7 @@ ghost use Rattle.std.specs.Prelude.{◌≡◌, ◌<◌, Option, None, Some};
 ghost use Rattle.std.specs.Int.{w8, w16, w32, w64};
 ghost use Rattle.std.specs.Option.{option_map};
 ghost use Rattle.qx_wire.specs.Laws.{IfKnown};
-ghost use Rattle.qx_wire.specs.Reading.{body_cut, chmod_at, cut, dup_at, ended, judged_where, known_or_malformed, lseek_at, mknod_at, notify_64_at, notify_at, number_at, open_at, read_at};
+ghost use Rattle.qx_wire.specs.Reading.{body_cut, chmod_at, cut, dup_at, ended, judged_where, known_or_malformed, lseek_at, mknod_at, notify_64_at, notify_at, number_at, open_at, read_at, rename_at};
 ghost use Rattle.qx_wire.specs.Table.{spelling};
 
 use crate::borrowed::BorrowedBytes;
@@ -92,6 +92,18 @@ fn mknod_at(body: &[u8]) -> Option<Message<'_>>
     Some(Message::Mknod {
         mode,
         rest: Rest::new(body),
+    })
+}
+
+#[tactic(auto, unfolding(crate::specs::Reading::rename_at))]
+fn rename_at(body: &[u8]) -> Option<Message<'_>>
+    ensures { result ≡ rename_at body.now }
+{
+    let (len, body) = u16_at(body)?;
+    let (from, to) = body.split_at_checked(usize::from(len))?;
+    Some(Message::Rename {
+        from: Rest::new(from),
+        to: Rest::new(to),
     })
 }
 
@@ -206,6 +218,7 @@ fn body_cut(kind: u16, subtype: u16, body: &[u8], judges: bool) -> Meaning<'_>
             known(Some(Message::Unlink { rest }), judges)
         }
         (256, 4) => known(mknod_at(body), judges),
+        (256, 5) => known(rename_at(body), judges),
         (257, 0) => known(read_at(body), judges),
         (258, 0) => {
             let bytes = BorrowedBytes::new(body);

@@ -41,7 +41,8 @@ const KINDS: &str = "\
     mount ann.1.1 /ann/m/n pipe\n\
     exit bob.1\n\
     receive 1 ram\n\
-    perform 1 9\n";
+    perform 1 9\n\
+    rename ann.1.1 /ann/of_more_than_twenty_bytes /ann/of_twenty_bytes_more\n";
 
 /// An open that makes a file, a write that makes it longer, a directory that is made, for whose entry there is room, a mount
 /// of RAM, an open that makes a pipe, a notification that arms an event, an open that makes a device, a read that waits there

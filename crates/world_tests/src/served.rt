@@ -82,6 +82,54 @@ const USES_SERVED: &str = "\
     receive 1 ram\nperform 1 13\nreply ann.3.1\n\
     receive 1 ram\nperform 1 14\nreply ann.3.2\n";
 
+/// Lines after which a process has a file open, and there are two others and three directories, one of them in another.
+const NAMES: &str = "\
+    spawn ann 4 10\n\
+    spawn ann 4 10\n\
+    open ann.1.1 /ann/f rwc 644\n\
+    receive 1 ram\nperform 1 1\nreply ann.1.1\n\
+    open ann.1.1 /ann/g rwc 644\n\
+    receive 1 ram\nperform 1 1\nreply ann.1.1\n\
+    close ann.1.1 4\n\
+    receive 1 ram\nperform 1 1\nreply ann.1.1\n\
+    open ann.1.1 /ann/h rwc 644\n\
+    receive 1 ram\nperform 1 2\nreply ann.1.1\n\
+    fill ann.1.1 4 600 07\n\
+    receive 1 ram\nperform 1 2\nreply ann.1.1\n\
+    close ann.1.1 4\n\
+    receive 1 ram\nperform 1 2\nreply ann.1.1\n\
+    mkdir ann.1.1 /ann/d 755\n\
+    receive 1 ram\nperform 1 3\nreply ann.1.1\n\
+    mkdir ann.1.1 /ann/d/a 755\n\
+    receive 1 ram\nperform 1 3\nreply ann.1.1\n\
+    mkdir ann.1.1 /ann/e 755\n\
+    receive 1 ram\nperform 1 4\nreply ann.1.1\n";
+
+/// Renames that are then sent: of the open file into an empty directory, of the directory above that in place of an empty
+/// one, of a file in place of the open one, to the same path, of a directory to another name, of that below itself, of a file
+/// in place of a directory, and of it in place of a file with bytes, which goes.
+const RENAMES: &str = "\
+    rename ann.1.1 /ann/f /ann/d/a/f\n\
+    rename ann.1.2 /ann/d /ann/e\n\
+    rename ann.1.3 /ann/g /ann/e/a/f\n\
+    rename ann.1.4 /ann/e/a/f /ann/e/a//f\n\
+    rename ann.2.1 /ann/e /ann/k\n\
+    rename ann.2.2 /ann/k /ann/k/a/b\n\
+    rename ann.2.3 /ann/k/a/f /ann/k/a\n\
+    rename ann.2.4 /ann/k/a/f /ann/h\n";
+
+/// They are done, two of them with an error; with the last one goes all that the second process has at the manager.
+const RENAMES_SERVED: &str = "\
+    receive 1 ram\nperform 1 5\nreply ann.1.1\n\
+    receive 1 ram\nperform 1 6\nreply ann.1.2\n\
+    receive 1 ram\nperform 1 7\nreply ann.1.3\n\
+    receive 1 ram\nperform 1 8\nreply ann.1.4\n\
+    receive 1 ram\nperform 1 9\nreply ann.2.1\n\
+    receive 1 ram\nperform 1 10\nreply ann.2.2\n\
+    receive 1 ram\nperform 1 11\nreply ann.2.3\n\
+    receive 1 ram\nperform 1 12\nreply ann.2.4\n\
+    receive 1 ram\nperform 1 13\n";
+
 /// Calls that are then sent, to be answered errors: three to the RAM manager and one to the pipe manager.
 const MISTAKES: &str = "\
     open ann.1.1 /ann/g rw 000\n\
@@ -249,11 +297,12 @@ const EXIT_WHILE_HELD: &str = "\
 
 /// Lines that come before, calls that are sent then, lines whose steps are taken with all memory taken, and how many of all
 /// these steps come to a failure.
-const CASES: [(&str, &str, &str, u64); 13] = [
+const CASES: [(&str, &str, &str, u64); 14] = [
     (CALLED, "", SURE, 0),
     (CALLED, "", INTERRUPTS, 0),
     (CALLED, "", RECEIVED_INTERRUPTS, 0),
     (FILES, USES, USES_SERVED, 0),
+    (NAMES, RENAMES, RENAMES_SERVED, 2),
     (FILES, MISTAKES, MISTAKES_SERVED, 4),
     (PIPE, READS, READS_SERVED, 1),
     (PIPE, WRITES, WRITES_SERVED, 1),

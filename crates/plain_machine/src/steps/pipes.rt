@@ -44,21 +44,21 @@ pub fn next_piping(
             _ => {}
         }
     }
-    match dice.below(16) {
+    match dice.below(18) {
         0 | 1 => open_pipe(alloc, dice, plain, proc),
-        2 | 3 => at_pipe(alloc, dice, plain, proc),
-        4..=6 => next_using(alloc, dice, coid),
-        7 => Ok(Request::Chmod {
+        2..=5 => at_pipe(alloc, dice, plain, proc),
+        6..=8 => next_using(alloc, dice, coid),
+        9 => Ok(Request::Chmod {
             coid,
             mode: next_directory_mode(dice),
         }),
-        8 => Ok(Request::Raw {
+        10 => Ok(Request::Raw {
             coid,
             bytes: next_raw(alloc, dice)?,
         }),
-        9 => Ok(Request::Close { coid }),
-        10 => Ok(Request::Fstat { coid }),
-        11 | 12 => Ok(Request::Read {
+        11 => Ok(Request::Close { coid }),
+        12 => Ok(Request::Fstat { coid }),
+        13 | 14 => Ok(Request::Read {
             coid,
             count: next_count(dice),
         }),

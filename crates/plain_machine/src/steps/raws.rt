@@ -22,7 +22,7 @@ pub fn next_raw(alloc: Global, dice: &mut Dice) -> Result<Bytes, AllocError> {
 /// A message as a request spells it, some of its values out of their ranges.
 fn spoken(alloc: Global, dice: &mut Dice) -> Result<Bytes, AllocError> {
     let request = next_spoken(alloc, dice)?;
-    write(alloc, &request, &[])
+    write(alloc, &request, &[], &[])
 }
 
 /// No bytes, one too few for a header, or a header.
@@ -44,8 +44,11 @@ fn long(alloc: Global, dice: &mut Dice) -> Result<Bytes, AllocError> {
 
 /// A connect message with something behind its mount.
 fn of_path(alloc: Global, dice: &mut Dice) -> Result<Bytes, AllocError> {
-    let subtype = 1 + dice.below(4);
+    let subtype = 1 + dice.below(5);
     let rest = next_rest(alloc, dice)?;
+    if subtype == 5 {
+        return of_two(alloc, dice, rest);
+    }
     message(
         alloc,
         256,
@@ -53,6 +56,20 @@ fn of_path(alloc: Global, dice: &mut Dice) -> Result<Bytes, AllocError> {
         fields(subtype),
         rest.as_slice(),
     )
+}
+
+/// A rename, which may tell one byte too many or too few of the first of its two rests.
+fn of_two(alloc: Global, dice: &mut Dice, from: Vec<u8>) -> Result<Bytes, AllocError> {
+    let to = next_rest(alloc, dice)?;
+    let length = u16::try_from(from.len()).unwrap_or(0);
+    let told = match dice.below(4) {
+        0 => length.wrapping_add(1),
+        1 => length.wrapping_sub(1),
+        _ => length,
+    };
+    let mut fields = Vec::from_slice(alloc, &told.to_le_bytes())?;
+    fields.extend_from_slice(from.as_slice())?;
+    message(alloc, 256, 5, fields.as_slice(), to.as_slice())
 }
 
 /// What a connect message has before the rest: flags or a kind, and a mode.

@@ -7,6 +7,7 @@ use crate::steps::events::{next_arming, next_notify, next_notifying, next_rousin
 use crate::steps::paths::{next_directory_path, next_path, user_word};
 use crate::steps::pipes::{has_waiting, next_piping};
 use crate::steps::raws::next_raw;
+use crate::steps::renames::next_rename;
 use crate::steps::texts::{filled, next_after};
 use qx_types::{Bytes, Coid, OFlags, Proc, Request, User, Whence};
 use std::alloc::{AllocError, Global};
@@ -44,6 +45,9 @@ pub fn next_request(
     }
     if dice.one_in(20) {
         return Ok(next_dup(dice, plain, proc));
+    }
+    if dice.one_in(10) {
+        return next_rename(alloc, dice, plain, proc.user);
     }
     if dice.one_in(12)
         && let Some(request) = next_shared(alloc, dice, plain, proc)?
@@ -112,6 +116,10 @@ pub fn next_spoken(alloc: Global, dice: &mut Dice) -> Result<Request, AllocError
             mode: next_mode(dice),
         }),
         7 => Ok(next_notify(dice, coid)),
+        8 => Ok(Request::Rename {
+            from: Bytes::new(alloc),
+            to: Bytes::new(alloc),
+        }),
         _ => next_using(alloc, dice, coid),
     }
 }

@@ -1,4 +1,4 @@
-//! What is asked of paths: open, stat, unlink and mkdir.
+//! What is asked of paths: open, stat, unlink, rename and mkdir.
 
 use crate::files::fault::Fault;
 use crate::files::rows::{Content, Files, Name, Place, ServerName, has};
@@ -131,19 +131,104 @@ impl Files {
             return Err(Errno::ENOENT);
         };
         self.judge_parent(place.user, end.parent)?;
-        if self.names.iter().any(|name| is_of_mount(name, place)
-            && name_in(name, place.path).is_some())
-        {
+        if self.has_names(place) {
             return Err(Errno::ENOTEMPTY);
         }
-        self.names.retain(|name| !is_of_mount(name, place) || name.path.as_slice() != place.path);
         self.touch(place, end.parent);
+        self.remove_name(place, number);
+        Ok(())
+    }
+
+    /// Gives a file or a directory another path of its mount, and all that is in a directory goes with it. What has that path
+    /// already loses it.
+    pub fn rename(&mut self, place: &Place<'_>, path: &[u8]) -> Result<(), Fault> {
+        let to = Place { path, ..*place };
+        if place.path.is_empty() || path.is_empty() {
+            return Err(Fault::Refused(Errno::EBUSY));
+        }
+        let old = self.walk(place)?;
+        let Some(number) = old.inode else {
+            return Err(Fault::Refused(Errno::ENOENT));
+        };
+        let new = self.walk(&to)?;
+        self.judge_parent(place.user, old.parent)?;
+        self.judge_parent(place.user, new.parent)?;
+        if path == place.path {
+            return Ok(());
+        }
+        self.judge_target(place, number, &to, new.inode)?;
+        self.touch(place, old.parent);
+        self.touch(place, new.parent);
+        if let Some(target) = new.inode {
+            self.remove_name(&to, target);
+        }
+        self.move_names(place, path)?;
+        Ok(())
+    }
+
+    /// Whether a file or a directory may have the path of another place, where something may be: a directory in place of an
+    /// empty directory alone, and a file in place of a file.
+    fn judge_target(
+        &self,
+        place: &Place<'_>,
+        number: u16,
+        to: &Place<'_>,
+        target: Option<u16>,
+    ) -> Result<(), Errno> {
+        if past(to.path, place.path).is_some() {
+            return Err(Errno::EINVAL);
+        }
+        let Some(target) = target else {
+            return Ok(());
+        };
+        match (
+            self.is_directory(place.user, number),
+            self.is_directory(place.user, target),
+        ) {
+            (true, false) => Err(Errno::ENOTDIR),
+            (false, true) => Err(Errno::EISDIR),
+            _ if self.has_names(to) => Err(Errno::ENOTEMPTY),
+            _ => Ok(()),
+        }
+    }
+
+    fn is_directory(&self, user: User, number: u16) -> bool {
+        match self.inode(user, number) {
+            Some(inode) => inode.is_directory(),
+            None => false,
+        }
+    }
+
+    /// Each path that was this one, or led on from it, begins with another one from now on.
+    fn move_names(&mut self, place: &Place<'_>, path: &[u8]) -> Result<(), AllocError> {
+        let alloc = self.alloc;
+        for name in self.names.iter_mut() {
+            if is_of_mount(name, place)
+                && let Some(rest) = name.path.as_slice().strip_prefix(place.path)
+                && matches!(rest, [] | [b'/', ..])
+            {
+                let mut moved = Vec::from_slice(alloc, path)?;
+                moved.extend_from_slice(rest)?;
+                name.path = Bytes::from_vec(moved);
+            }
+        }
+        Ok(())
+    }
+
+    /// Whether a path of something leads through what is at this one.
+    fn has_names(&self, place: &Place<'_>) -> bool {
+        self.names.iter().any(|name| is_of_mount(name, place)
+            && name_in(name, place.path).is_some())
+    }
+
+    /// A path leads to an inode no longer, which goes where nothing has it open.
+    fn remove_name(&mut self, place: &Place<'_>, number: u16) {
+        self.names.retain(|name| !is_of_mount(name, place) || name.path.as_slice() != place.path);
         if let Some(inode) = self.inode_mut(place.user, number) {
             inode.is_named = false;
             inode.changed = place.moment;
         }
         self.let_go(place.user, number);
-        Ok(())
     }
 
     /// The status of what a path leads to.
@@ -236,11 +321,16 @@ pub fn name_in<'a>(name: &'a Name, directory: &[u8]) -> Option<&'a [u8]> {
     let last = if directory.is_empty() {
         path
     } else {
-        path.strip_prefix(directory)?.strip_prefix(b"/")?
+        past(path, directory)?
     };
     if last.contains(&b'/') {
         None
     } else {
         Some(last)
     }
+}
+
+/// What a path has behind another one and a slash, if it begins with that.
+fn past<'a>(path: &'a [u8], front: &[u8]) -> Option<&'a [u8]> {
+    path.strip_prefix(front)?.strip_prefix(b"/")
 }

@@ -1,31 +1,30 @@
 -- How the entries of directories stand in lists of a table. No public clause of another crate cites this module.
-use Rattle.std.specs.Prelude.{ℕ, suc, ◌≡◌, ◌≢◌, ◌<◌, ◌⊎◌, List, [], ◌∷◌, Contains, Option, None, Some, get_or, if◌then◌else◌, length, map as mapped, refl, unwrap_or}
-use Rattle.std.specs.Cmp.Lexicographic.{slice_cmp}
+use Rattle.std.specs.Prelude.{ℕ, suc, ◌≡◌, ◌≢◌, ◌<◌, ◌⊎◌, List, [], ◌∷◌, Contains, Option, None, Some, if◌then◌else◌, length, map as mapped, refl, unwrap_or}
 use Rattle.std.specs.Coded.{Coded, code_by, coded×, coded_list, coded_option, coded_ℕ}
 use Rattle.std.specs.FinMap as map
 use Rattle.std.specs.FinMap.Entries.{is_sorted}
-use Rattle.std.specs.Ordering.{is_lt, nat_cmp}
+use Rattle.std.specs.Ordering.{is_lt}
 use Rattle.std.proofs.Common.{T}
 use Rattle.qx_lists.specs.Table.{ContainsList, ContainsNode, IsIn, Table}
-use Rattle.qx_names.specs.inner.Folders.{Folder}
+use Rattle.qx_names.specs.inner.Folders.{Entries, Place, place_cmp}
 
--- a name, and the inode that it names
+-- a directory and a name in it, and the inode that it names
 abbrev pub Entry : Type 0
-Entry = List ℕ × ℕ
+Entry = Place × ℕ
 
 abbrev pub entry_code : Coded Entry
-entry_code = coded× (coded_list coded_ℕ) coded_ℕ
+entry_code = coded× (coded× coded_ℕ (coded_list coded_ℕ)) coded_ℕ
 
--- the names rise
+-- the places rise
 abbrev pub IsRising : List Entry → Type 0
-IsRising entries = T (is_sorted (slice_cmp nat_cmp) entries)
+IsRising entries = T (is_sorted place_cmp entries)
 
--- how many entries stand before the first whose name is behind this one
-abbrev pub count_to : List ℕ → List Entry → ℕ
-count_to name [] = 0
-count_to name (entry ∷ entries) = if is_lt (slice_cmp nat_cmp name entry.0) then 0 else suc (count_to name entries)
+-- how many entries stand before the first whose place is behind this one
+abbrev pub count_to : Place → List Entry → ℕ
+count_to place [] = 0
+count_to place (entry ∷ entries) = if is_lt (place_cmp place entry.0) then 0 else suc (count_to place entries)
 
--- the child list of one directory: the number of the list, none where there is no entry, and the nodes of the index
+-- the child lists of all directories, one behind the other: the number of the list, none where there is no entry, and the nodes of the index
 pub record Children : Type 0 where
   pub list : Option ℕ
   pub nodes : List ℕ
@@ -36,40 +35,33 @@ children_code = code_by (Option ℕ × List ℕ) (coded× (coded_option coded_�
 abbrev pub no_children : Children
 no_children = record { list = None; nodes = [] }
 
-abbrev pub children_at : List Children → ℕ → Children
-children_at all directory = get_or all directory no_children
-
 -- ---- what the lists tell
 
 abbrev pub entry_of : Table Entry → ℕ → Entry
-entry_of t node = unwrap_or (map.get t.values node) ([], 0)
+entry_of t node = unwrap_or (map.get t.values node) ((0, []), 0)
 
 abbrev pub entries_of : Table Entry → Children → List Entry
 entries_of t children = mapped (entry_of t) children.nodes
 
-abbrev pub folder_of : Table Entry → Children → Folder
+abbrev pub folder_of : Table Entry → Children → Entries
 folder_of t children = map.from_entries (entries_of t children)
-
-abbrev pub shown_folders : Table Entry → List Children → List Folder
-shown_folders t all = mapped (folder_of t) all
 
 -- ---- what holds of them
 
--- a directory with entries has a list, of just the nodes of its index, and the names rise
+-- where there are entries there is a list, of just the nodes of the index, and the places rise
 pub record Keeps (t : Table Entry) (children : Children) : Type 0 where
   pub listed : (list : ℕ) → children.list ≡ Some list → map.get t.lists list ≡ Some children.nodes
   pub some : (list : ℕ) → children.list ≡ Some list → 0 < length children.nodes
   pub none : children.list ≡ None → children.nodes ≡ []
   pub rising : IsRising (entries_of t children)
 
--- each directory's list is its own, each list is some directory's, and each node stands in a list
-pub record KeepsAll (t : Table Entry) (children : ℕ → Children) : Type 0 where
-  pub each : (directory : ℕ) → Keeps t (children directory)
-  pub apart : (one two list : ℕ) → (children one).list ≡ Some list → (children two).list ≡ Some list → one ≡ two
-  pub owned : (list : ℕ) → ContainsList t list → (directory : ℕ) × ((children directory).list ≡ Some list)
-  pub used : (node : ℕ) → ContainsNode t node → (list : ℕ) × IsIn t list node
+-- and no other list, and no other node
+pub record KeepsAll (t : Table Entry) (children : Children) : Type 0 where
+  pub keeps : Keeps t children
+  pub owned : (list : ℕ) → ContainsList t list → children.list ≡ Some list
+  pub used : (node : ℕ) → ContainsNode t node → Contains children.nodes node
 
--- one directory's children became others, whose list is the same, a new one or none; other lists and their entries are as before, and
+-- the children became others, whose list is the same, a new one or none; other lists and their entries are as before, and
 -- no node is left in no list
 pub record Turns (t new : Table Entry) (children now : Children) : Type 0 where
   pub keeps : Keeps new now

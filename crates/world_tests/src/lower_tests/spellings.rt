@@ -2,7 +2,7 @@
 
 use hex::FromHexError;
 use qx_types::{MessageBytes, NoMemory};
-use qx_wire::{Meaning, Parsed, encode};
+use qx_wire::{Meaning, Message, Parsed, encode};
 use std::alloc::{AllocError, Global};
 use std::test::Fail;
 
@@ -21,6 +21,14 @@ const SPELLINGS: &[(&str, &str)] = &[
     (
         "00010400050000000200ed0164",
         "Mknod { mode: 493, rest: Rest { bytes: [100] } }",
+    ),
+    (
+        "00010500060000000300612f6263",
+        "Rename { from: Rest { bytes: [97, 47, 98] }, to: Rest { bytes: [99] } }",
+    ),
+    (
+        "00010500020000000000",
+        "Rename { from: Rest { bytes: [] }, to: Rest { bytes: [] } }",
     ),
     ("010100000400000003000000", "Read { count: 3 }"),
     (
@@ -91,6 +99,12 @@ const SPELLINGS: &[(&str, &str)] = &[
     ("00010100040000000400ff01", "Malformed"),
     ("000101000400000081000000", "Malformed"),
     ("00010400050000000100ed0164", "Malformed"),
+    ("0001050000000000", "Malformed"),
+    ("000105000100000001", "Malformed"),
+    ("000105000400000003006667", "Malformed"),
+    ("000105000500000002002e2e67", "Malformed"),
+    ("00010500050000000200662f67", "Malformed"),
+    ("0001050005000000010066672f", "Malformed"),
     ("0001020002000000782f", "Malformed"),
     ("00010200020000002e2e", "Malformed"),
     ("0701000003000000612f62", "Malformed"),
@@ -99,6 +113,16 @@ const SPELLINGS: &[(&str, &str)] = &[
     ("030100000100000000", "Malformed"),
     ("e703000000000000", "Unknown"),
     ("0a01030000000000", "Unknown"),
+    ("0001060000000000", "Unknown"),
+];
+
+/// How many bytes the two paths of a rename have behind their mount, and whether they may have so many.
+const LENGTHS: &[(u16, u16, bool)] = &[
+    (1024, 1024, true),
+    (1024, 0, true),
+    (0, 1024, true),
+    (1025, 1, false),
+    (1, 1025, false),
 ];
 
 /// The bytes of hexadecimal digits.
@@ -108,6 +132,26 @@ fn from_hex(alloc: Global, digits: &str) -> Result<MessageBytes, Fail> {
         Err(FromHexError::OutOfMemory) => Err(Fail::from(AllocError)),
         Err(_) => Err(Fail::new("no hexadecimal digits")),
     }
+}
+
+/// So many bytes of a path, in components of at most 31 bytes.
+fn push_rest(bytes: &mut Vec<u8>, len: u16) -> Result<(), AllocError> {
+    for at in 0..len {
+        bytes.push(if at % 32 == 15 { b'/' } else { b'a' })?;
+    }
+    Ok(())
+}
+
+/// A rename whose paths have so many bytes behind their mount.
+fn renaming(alloc: Global, from: u16, to: u16) -> Result<MessageBytes, AllocError> {
+    let mut bytes = Vec::new(alloc);
+    bytes.extend_from_slice(&[0, 1, 5, 0])?;
+    let len = 2 + u32::from(from) + u32::from(to);
+    bytes.extend_from_slice(&len.to_le_bytes())?;
+    bytes.extend_from_slice(&from.to_le_bytes())?;
+    push_rest(&mut bytes, from)?;
+    push_rest(&mut bytes, to)?;
+    Ok(MessageBytes::from_vec(bytes))
 }
 
 /// Whether the bytes mean what is printed so.
@@ -133,6 +177,17 @@ fn messages_are_spelled_so(rt: HostRuntime) -> Result<(), Fail> {
         let parsed = Parsed::read(from_hex(rt.alloc(), digits)?);
         assert!(rt; is_meant(rt.alloc(), &parsed, meaning)?, "{digits}");
         assert!(rt; is_encoded_again(rt.alloc(), &parsed)?, "{digits}");
+    }
+    Ok(())
+}
+
+#[test]
+fn renames_have_paths_of_1024_bytes(rt: HostRuntime) -> Result<(), Fail> {
+    for (from, to, may_be) in LENGTHS {
+        let parsed = Parsed::read(renaming(rt.alloc(), *from, *to)?);
+        let is_known = matches!(parsed.meaning(), Meaning::Known(Message::Rename { .. }));
+        assert!(rt; is_known == *may_be, "{from} {to}");
+        assert!(rt; is_encoded_again(rt.alloc(), &parsed)?, "{from} {to}");
     }
     Ok(())
 }

@@ -1,4 +1,4 @@
-use Rattle.std.proofs.Common.{◌≡◌, ◌∙◌, List, [], ◌∷◌, None, ap, length, sym, take}
+use Rattle.std.proofs.Common.{◌∙◌, List, [], ◌∷◌, None, ap, length, sym, take}
 use Rattle.std.specs.Prelude.{slice_index_or}
 use Rattle.std.proofs.lemmas.List.{take_more}
 use Rattle.qx_types.specs.Configuration.{Configuration}

@@ -1,4 +1,4 @@
-use Rattle.std.proofs.Common.{◌≡◌, ap, refl, ◌∙◌}
+use Rattle.std.proofs.Common.{◌≡◌, ap, ◌∙◌}
 use Rattle.qx_attr.specs.Counts.{Reserved}
 use Rattle.qx_iofunc.proofs.FitLemmas.{none_named}
 use Rattle.qx_iofunc.proofs.StoreLemmas.{boot_fits, first_inode, made_from}

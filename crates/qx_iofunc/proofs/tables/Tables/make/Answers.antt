@@ -1,14 +1,7 @@
-use Rattle.std.proofs.Common.{◌≡◌, ap, arith}
-use Rattle.qx_iofunc.proofs.PlaceLemmas.{row-within}
+use Rattle.std.proofs.Common.{◌≡◌, ap}
 use Rattle.qx_iofunc.proofs.StoreLemmas.{made_from, number_free, still_there}
 use Rattle.qx_iofunc.specs.Store.{Store}
 use Rattle.qx_iofunc.proofs.tables.Tables.make.Goals as goal
-
-pub insert-requires-clause-few : goal.insert-requires-clause-few
-insert-requires-clause-few c =
-    let within = row-within c.args.self.now.stored.inodes.attributes c.args.at.parent c.requires.parent in
-    let few = rw (ap (λ (store : Store). store.stored.inodes) c.self.view_is) at c.numbered.ensures.few in
-    omega (arith, within, few)
 
 pub set_attribute-requires : goal.set_attribute-requires
 set_attribute-requires c =

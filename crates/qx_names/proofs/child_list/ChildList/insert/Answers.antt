@@ -15,14 +15,14 @@ place_behind-place-requires-clause-there c =
 
 pub link_at-requires-clause-place : goal.link_at-requires-clause-place
 link_at-requires-clause-place c =
-    let count = count_to-within c.args.name.now (mapped (entry_of c.args.table.now) c.deref.result.now) in
+    let count = count_to-within (c.args.directory, c.args.name.now) (mapped (entry_of c.args.table.now) c.deref.result.now) in
     let size = length-map c.deref.result.now (entry_of c.args.table.now) in
     let same = ap length (c.deref-2.ensures.value ∙ c.reserve.ensures.items ∙ sym c.deref.ensures.value) in
     omega (arith, count, size, same, c.place_behind-place.ensures)
 
 pub insert-requires : goal.insert-requires
 insert-requires c =
-    let count = count_to-within c.args.name.now (mapped (entry_of c.args.table.now) c.deref.result.now) in
+    let count = count_to-within (c.args.directory, c.args.name.now) (mapped (entry_of c.args.table.now) c.deref.result.now) in
     let size = length-map c.deref.result.now (entry_of c.args.table.now) in
     omega (arith, count, size, c.place_behind-place.ensures, c.deref.ensures.len, c.reserve.ensures.len)
 
@@ -55,7 +55,7 @@ here c =
 older : (c : goal.In_ok-insert) → c.reserve-2.new.self.values ≡ c.args.table.now.values
 older c = ap (λ (t : Table Entry). t.values) c.in_ok-reserve-2.ensures.ok
 
-values : (c : goal.In_ok-insert) → c.link_at.new.table.values ≡ map.insert c.args.table.now.values c.in_ok-node.node (c.args.name.now, c.args.inode)
+values : (c : goal.In_ok-insert) → c.link_at.new.table.values ≡ map.insert c.args.table.now.values c.in_ok-node.node ((c.args.directory, c.args.name.now), c.args.inode)
 values c =
     ap (λ (t : Table Entry). t.values) c.link_at.ensures ∙ ap (λ (t : Table Entry). t.values) c.in_ok-node.ensures.made ∙ ap (λ values. map.insert values c.in_ok-node.node c.in_ok-entry.entry) (older c)
     ∙ ap (map.insert c.args.table.now.values c.in_ok-node.node) c.in_ok-entry.ensures.ok
@@ -63,15 +63,15 @@ values c =
 fresh : (c : goal.In_ok-insert) → map.get c.args.table.now.values c.in_ok-node.node ≡ None
 fresh c = ap (λ values. map.get values c.in_ok-node.node) (sym (older c)) ∙ c.in_ok-node.ensures.was_new
 
-place : (c : goal.In_ok-insert) → c.place_behind-place.result ≡ count_to c.args.name.now (entries_of c.args.table.now c.args.self.now)
-place c = c.place_behind-place.ensures ∙ ap (λ xs. count_to c.args.name.now (mapped (entry_of c.args.table.now) xs)) (c.deref.ensures.value ∙ ap (λ (children : Children). children.nodes) c.self.view_is)
+place : (c : goal.In_ok-insert) → c.place_behind-place.result ≡ count_to (c.args.directory, c.args.name.now) (entries_of c.args.table.now c.args.self.now)
+place c = c.place_behind-place.ensures ∙ ap (λ xs. count_to (c.args.directory, c.args.name.now) (mapped (entry_of c.args.table.now) xs)) (c.deref.ensures.value ∙ ap (λ (children : Children). children.nodes) c.self.view_is)
 
 pub returns-clause-turns : goal.returns-clause-turns
 returns-clause-turns c =
     subst (Turns c.args.table.now c.link_at.new.table c.args.self.now) (became c)
-    (put_turns c.args.table.now c.link_at.new.table c.args.self.now c.requires.keeps c.know.ensures.there c.in-Some.list c.in_ok-node.node c.place_behind-place.result (lists c) c.args.name.now c.args.inode (place c) c.requires.new (inl (was c)) (fresh c) (here c) (values c))
+    (put_turns c.args.table.now c.link_at.new.table c.args.self.now c.requires.keeps c.know.ensures.there c.in-Some.list c.in_ok-node.node c.place_behind-place.result (lists c) (c.args.directory, c.args.name.now) c.args.inode (place c) c.requires.new (inl (was c)) (fresh c) (here c) (values c))
 
 pub returns-clause-ok : goal.returns-clause-ok
 returns-clause-ok c =
     ap (folder_of c.link_at.new.table) (sym (became c))
-    ∙ put_folder c.args.table.now c.link_at.new.table c.args.self.now c.requires.keeps c.know.ensures.there c.in-Some.list c.in_ok-node.node c.place_behind-place.result (lists c) c.args.name.now c.args.inode (place c) c.requires.new (inl (was c)) (fresh c) (here c) (values c)
+    ∙ put_folder c.args.table.now c.link_at.new.table c.args.self.now c.requires.keeps c.know.ensures.there c.in-Some.list c.in_ok-node.node c.place_behind-place.result (lists c) (c.args.directory, c.args.name.now) c.args.inode (place c) c.requires.new (inl (was c)) (fresh c) (here c) (values c)

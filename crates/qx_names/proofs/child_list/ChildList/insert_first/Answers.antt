@@ -2,7 +2,7 @@ use Rattle.std.proofs.Common.{◌≡◌, ◌≢◌, ◌++◌, ◌∷◌, inr, �
 use Rattle.std.specs.FinMap as map
 use Rattle.std.specs.FinMap.Entries.{find}
 use Rattle.std.specs.Prelude.{map as mapped}
-use Rattle.qx_machine.proofs.Directories.{name_cmp}
+use Rattle.qx_names.specs.inner.Folders.{place_cmp}
 use Rattle.qx_lists.specs.Table.{Table, nodes_of}
 use Rattle.qx_lists.proofs.MapLemmas.{get-insert_other, get-insert_same}
 use Rattle.qx_names.specs.inner.Children.{Children, Entry, Turns, count_to, entries_of, entry_of, folder_of}
@@ -52,7 +52,7 @@ here c =
 older : (c : goal.After-drop-self-inside) → c.add_list.new.self.values ≡ c.args.table.now.values
 older c = ap (λ (t : Table Entry). t.values) c.in_ok-list.ensures.made ∙ ap (λ (t : Table Entry). t.values) c.in_ok-reserve.ensures.ok
 
-values : (c : goal.After-drop-self-inside) → c.push_back.new.table.values ≡ map.insert c.args.table.now.values c.in_ok-node.node (c.args.name.now, c.args.inode)
+values : (c : goal.After-drop-self-inside) → c.push_back.new.table.values ≡ map.insert c.args.table.now.values c.in_ok-node.node ((c.args.directory, c.args.name.now), c.args.inode)
 values c =
     ap (λ (t : Table Entry). t.values) c.push_back.ensures ∙ ap (λ (t : Table Entry). t.values) c.in_ok-node.ensures.made ∙ ap (λ values. map.insert values c.in_ok-node.node c.in_ok-entry.entry) (older c)
     ∙ ap (map.insert c.args.table.now.values c.in_ok-node.node) c.in_ok-entry.ensures.ok
@@ -63,18 +63,18 @@ fresh c = ap (λ values. map.get values c.in_ok-node.node) (sym (older c)) ∙ c
 was_new : (c : goal.After-drop-self-inside) → map.get c.args.table.now.lists c.in_ok-list.list ≡ None
 was_new c = sym (ap (λ (t : Table Entry). map.get t.lists c.in_ok-list.list) c.in_ok-reserve.ensures.ok) ∙ c.in_ok-list.ensures.was_new
 
-place : (c : goal.After-drop-self-inside) → 0 ≡ count_to c.args.name.now (entries_of c.args.table.now c.args.self.now)
-place c = sym (ap (λ nodes. count_to c.args.name.now (mapped (entry_of c.args.table.now) nodes)) (empty c))
+place : (c : goal.After-drop-self-inside) → 0 ≡ count_to (c.args.directory, c.args.name.now) (entries_of c.args.table.now c.args.self.now)
+place c = sym (ap (λ nodes. count_to (c.args.directory, c.args.name.now) (mapped (entry_of c.args.table.now) nodes)) (empty c))
 
-absent : (c : goal.After-drop-self-inside) → find name_cmp c.args.name.now (entries_of c.args.table.now c.args.self.now) ≡ None
-absent c = ap (λ nodes. find name_cmp c.args.name.now (mapped (entry_of c.args.table.now) nodes)) (empty c)
+absent : (c : goal.After-drop-self-inside) → find place_cmp (c.args.directory, c.args.name.now) (entries_of c.args.table.now c.args.self.now) ≡ None
+absent c = ap (λ nodes. find place_cmp (c.args.directory, c.args.name.now) (mapped (entry_of c.args.table.now) nodes)) (empty c)
 
 pub returns-clause-turns : goal.returns-clause-turns
 returns-clause-turns c =
     subst (Turns c.args.table.now c.push_back.new.table c.args.self.now) (became c)
-    (put_turns c.args.table.now c.push_back.new.table c.args.self.now c.requires.keeps c.know.ensures.there c.in_ok-list.list c.in_ok-node.node 0 (lists c) c.args.name.now c.args.inode (place c) (absent c) (inr (c.requires.none, was_new c)) (fresh c) (here c) (values c))
+    (put_turns c.args.table.now c.push_back.new.table c.args.self.now c.requires.keeps c.know.ensures.there c.in_ok-list.list c.in_ok-node.node 0 (lists c) (c.args.directory, c.args.name.now) c.args.inode (place c) (absent c) (inr (c.requires.none, was_new c)) (fresh c) (here c) (values c))
 
 pub returns-clause-ok : goal.returns-clause-ok
 returns-clause-ok c =
     ap (folder_of c.push_back.new.table) (sym (became c))
-    ∙ put_folder c.args.table.now c.push_back.new.table c.args.self.now c.requires.keeps c.know.ensures.there c.in_ok-list.list c.in_ok-node.node 0 (lists c) c.args.name.now c.args.inode (place c) (absent c) (inr (c.requires.none, was_new c)) (fresh c) (here c) (values c)
+    ∙ put_folder c.args.table.now c.push_back.new.table c.args.self.now c.requires.keeps c.know.ensures.there c.in_ok-list.list c.in_ok-node.node 0 (lists c) (c.args.directory, c.args.name.now) c.args.inode (place c) (absent c) (inr (c.requires.none, was_new c)) (fresh c) (here c) (values c)

@@ -23,7 +23,6 @@ pub invariant_of-self-2 : goal.invariant_of-self-2
 invariant_of-self-2 c =
     record {
       distinct = rooted_once c.self.inside.roots.items c.self.inside.folders c.self.inside.kept c.args.self.now c.self.view_is c.push_reserved.new.self.items c.args.root (c.push_reserved.ensures.items ∙ ap (◌++ c.args.root ∷ []) c.reserve.ensures.items) c.requires.new c.self.invariant.distinct;
-      few = c.self.invariant.few;
     }
 
 pub returns-clause-ok : goal.returns-clause-ok

@@ -1,4 +1,4 @@
-use Rattle.std.proofs.Common.{rules, true, ◌≡◌, ◌≤◌, [], ◌∷◌, length}
+use Rattle.std.proofs.Common.{rules, true, ◌≡◌, [], ◌∷◌, length}
 use Rattle.std.proofs.lemmas.List.Elements.{All-append, All-cons, All-nil}
 use Rattle.qx_script.specs.Settings.{CanBeSet, is_allowed}
 use Rattle.qx_script.proofs.reading.Reading.add_setting.Goals as goal

@@ -36,6 +36,9 @@ module _ (names : Names) (key : Key) where
   pub insert-other : (inode : ℕ) (other : Key) (m : ℕ) → get names key ≡ None → get names other ≡ Some m → get (insert names key inode) other ≡ Some m
   insert-other inode other m missing leads = inserted_apart key_total key-IsAntisymmetric names key inode other (λ same. let both : None ≡ Some m = sym missing ∙ (ap (get names) (sym same) ∙ leads) in cc) ∙ leads
 
+  pub remove-at : get (remove names key) key ≡ None
+  remove-at = removed key_total key-IsAntisymmetric names key
+
   pub remove-kept : (other : Key) (m : ℕ) → get (remove names key) other ≡ Some m → (get names other ≡ Some m) × (other ≢ key)
   remove-kept other m leads = elim (same_or_not key_total key-IsAntisymmetric other key) [
     | inl same ↦ let none : None ≡ Some m = sym (removed key_total key-IsAntisymmetric names key) ∙ (ap (get (remove names key)) (sym same) ∙ leads) in absurd (cc)
