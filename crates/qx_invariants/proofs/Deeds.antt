@@ -156,7 +156,7 @@ abbrev pub NamesComponents : Message → Type 0
 NamesComponents (msg.Open flags mode rest) = AreComponents rest
 NamesComponents (msg.Unlink rest) = AreComponents rest
 NamesComponents (msg.Mknod mode rest) = AreComponents rest
-NamesComponents (msg.Rename from to) = AreComponents from × AreComponents to
+NamesComponents (msg.Rename rests) = AreComponents rests.0 × AreComponents rests.1
 NamesComponents _ = Unit {0}
 
 -- ---- directories that stay
@@ -774,7 +774,7 @@ module _ (K : Resources → Told → Type 0) (keeps : (change : ResourceChange) 
     ram-gives mine (msg.Stat rest) names = gives_on _ (side_root context.target) _ (λ root is. stat_path-gives root rest context.moment)
     ram-gives mine (msg.Unlink rest) names = gives_on _ (side_root context.target) _ (λ root is. unlink-gives File root rest context.moment names)
     ram-gives mine (msg.Mknod mode rest) names = gives_on _ (side_root context.target) _ (λ root is. directory-gives root mode rest context.moment (side_root-is context.target root is) names)
-    ram-gives mine (msg.Rename from to) names = gives_on _ (side_root context.target) _ (λ root is. rename-gives File root from to context.moment names.0 names.1)
+    ram-gives mine (msg.Rename rests) names = gives_on _ (side_root context.target) _ (λ root is. rename-gives File root rests.0 rests.1 context.moment names.0 names.1)
     ram-gives mine (msg.Read count) names = gives_on _ context.opened _ (λ over is. read_file-gives over count)
     ram-gives mine (msg.Write bytes) names = gives_on _ context.opened _ (λ over is. write_file-gives over bytes)
     ram-gives mine msg.Close names = gives_on _ context.opened _ (λ over is. close_dup-gives File over is)
@@ -790,7 +790,7 @@ module _ (K : Resources → Told → Type 0) (keeps : (change : ResourceChange) 
     pipe-gives own mine (msg.Stat rest) names = gives_on _ (side_root context.target) _ (λ root is. stat_path-gives root rest context.moment)
     pipe-gives own mine (msg.Unlink rest) names = gives_on _ (side_root context.target) _ (λ root is. unlink-gives own root rest context.moment names)
     pipe-gives own mine (msg.Mknod mode rest) names = gives_error _ _
-    pipe-gives own mine (msg.Rename from to) names = gives_error _ _
+    pipe-gives own mine (msg.Rename rests) names = gives_error _ _
     pipe-gives own mine (msg.Read count) names = gives_on _ context.opened _ (λ over is. read-gives over count is)
     pipe-gives own mine (msg.Write bytes) names = gives_on _ context.opened _ (λ over is. write-gives over bytes is)
     pipe-gives own mine msg.Close names = gives_on _ context.opened _ (λ over is. close_dup-gives own over is)

@@ -25,9 +25,9 @@ ranged : (message : Message) → in_ranges message ≡ true → NamesComponents 
 ranged (msg.Open f m rest) is = rest-components rest ((and_parts (mode m).good (is_rest rest && true) ((and_parts (flags f.0).good ((mode m).good && (is_rest rest && true)) is).1)).1)
 ranged (msg.Unlink rest) is = rest-components rest is
 ranged (msg.Mknod m rest) is = rest-components rest ((and_parts (mode m).good (is_rest rest && true) is).1)
-ranged (msg.Rename from to) is =
-    let both = and_parts (is_rest from) (is_rest to && true) ((and_parts (rest_length from).good (is_rest from && (is_rest to && true)) is).1) in
-    (components from ((and_parts (nat_le (length (joined from)) PATH) (list_all is_component from) both.0).1), rest-components to both.1)
+ranged (msg.Rename rests) is =
+    let both = and_parts (is_rest rests.0) (is_rest rests.1 && true) ((and_parts (rest_length rests.0).good (is_rest rests.0 && (is_rest rests.1 && true)) is).1) in
+    (components rests.0 ((and_parts (nat_le (length (joined rests.0)) PATH) (list_all is_component rests.0) both.0).1), rest-components rests.1 both.1)
 ranged _ is = tt
 
 by_cut : (given : Meaning) (message : Message) → judged given ≡ Known message → NamesComponents message

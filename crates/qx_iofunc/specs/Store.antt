@@ -56,6 +56,11 @@ abbrev pub files_without : {A : Type 0} → Kind → ℕ → List (Option A) →
 files_without File inode files = slice_set files inode None
 files_without _ inode files = files
 
+-- what is left of them where this inode goes, if any does
+abbrev pub files_left : {A : Type 0} → Kind → Option ℕ → List (Option A) → List (Option A)
+files_left own None files = files
+files_left own (Some inode) files = files_without own inode files
+
 -- an open control block goes
 abbrev pub block_gone : ℕ → Stored → Stored
 block_gone number s = record s { inodes = close_block s.inodes number }

@@ -2,7 +2,7 @@
 
 ghost use Rattle.std.specs.Prelude.{◌≡◌, ◌-◌, ◌≤◌, ℕ, IfOk, IsOk, OnOk, OnErr, max};
 ghost use Rattle.qx_iofunc.specs.Given as given;
-ghost use Rattle.qx_iofunc.specs.Store.{with_stored};
+ghost use Rattle.qx_iofunc.specs.Store.{files_left, with_stored};
 ghost use Rattle.qx_machine.specs.Defaults as machine;
 ghost use Rattle.qx_machine.specs.Resources.{Resources};
 
@@ -76,6 +76,8 @@ impl Store {
         moment: u64,
     ) -> Result<Option<u32>, Errno>
         ensures user { self.new.stored.user ≡ self.old.stored.user }
+        ensures room { self.new.room ≡ self.old.room }
+        ensures blocks { IfOk result (λ gone. self.new.blocks ≡ files_left own gone self.old.blocks) }
         ensures unlinked { (r : Resources) → given.unlink_given own (with_stored r self.new.stored) result ≡ machine.unlink_path own (with_stored r self.old.stored) root rest.now moment }
         ensures kept { OnErr result (self.new ≡ self.old) }
     {

@@ -1,9 +1,9 @@
 //! Another name.
 
-ghost use Rattle.std.specs.Prelude.{◌≡◌, ℕ, true, Ok, Some, OnErr};
+ghost use Rattle.std.specs.Prelude.{◌≡◌, ℕ, true, Ok, Option, Some, OnErr};
 ghost use Rattle.std.specs.FinMap.{get};
 ghost use Rattle.qx_iofunc.specs.Given as given;
-ghost use Rattle.qx_iofunc.specs.Store.{with_stored};
+ghost use Rattle.qx_iofunc.specs.Store.{files_left, with_stored};
 ghost use Rattle.qx_machine.specs.Defaults as machine;
 ghost use Rattle.qx_machine.specs.Inodes.{Inodes};
 ghost use Rattle.qx_machine.specs.Names as of_names;
@@ -37,6 +37,8 @@ impl Store {
         requires good { is_rest to.now ≡ true }
         ensures user { self.new.stored.user ≡ self.old.stored.user }
         ensures renamed { (r : Resources) → given.done (with_stored r self.new.stored) result ≡ machine.rename_path File (with_stored r self.old.stored) root from.now to.now moment }
+        ensures room { self.new.room ≡ self.old.room }
+        ensures blocks { (gone : Option ℕ) × (self.new.blocks ≡ files_left File gone self.old.blocks) }
         ensures kept { OnErr result (self.new ≡ self.old) }
     {
         if is_root(from) || is_root(to) {

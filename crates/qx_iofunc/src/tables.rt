@@ -1,9 +1,10 @@
-ghost use Rattle.std.specs.Prelude.{◌≡◌, ◌≢◌, ◌-◌, ◌<◌, ℕ, [], None, Some, Ok, IsSome, OnOk, OnErr, false};
+ghost use Rattle.std.specs.Prelude.{◌≡◌, ◌≢◌, ◌-◌, ◌<◌, ℕ, [], None, Some, Ok, Option, IsSome, OnOk, OnErr, false, if◌then◌else◌};
 ghost use Rattle.std.specs.FinMap.{get, remove};
-ghost use Rattle.qx_iofunc.specs.Store.{blocks_gone, unused_gone};
+ghost use Rattle.qx_iofunc.specs.Store.{blocks_gone, files_left, unused_gone};
 ghost use Rattle.qx_iofunc.specs.Fits.{Fits};
 ghost use Rattle.qx_iofunc.specs.inner.Store.{CanMove, IsReplaceable, blocks_truncated, files_with, name_free, name_taken, with_made, with_resized, with_truncated};
 ghost use Rattle.qx_machine.specs.Defaults as machine;
+ghost use Rattle.qx_machine.specs.declared.rows.Kind.TheVariants.{File};
 ghost use Rattle.qx_machine.specs.Inodes.{inode_number, is_unused, with_attribute};
 ghost use Rattle.qx_machine.specs.Names.{is_same_key, names_in, under};
 ghost use Rattle.qx_isolation.specs.Rows.{row_at};
@@ -94,6 +95,8 @@ impl Tables {
         requires empty { names_in self.old.stored.names inode ≡ [] }
         ensures gone { result ≡ is_unused (with_attribute self.old.stored.inodes inode (machine.unnamed moment attribute)) inode (row_at (with_attribute self.old.stored.inodes inode (machine.unnamed moment attribute)).attributes inode) }
         ensures taken { self.new.stored ≡ name_taken own (under (path_of self.old.stored.names at.entry.parent) at.entry.name.now) inode attribute moment self.old.stored }
+        ensures room { self.new.room ≡ self.old.room }
+        ensures blocks { self.new.blocks ≡ files_left own (if result then Some inode else None) self.old.blocks }
         ensures unnamed { HasNoPath (remove self.old.stored.names (under (path_of self.old.stored.names at.entry.parent) at.entry.name.now)) inode }
         ensures others { (other : ℕ) → HasPath self.old.stored.names other → path_of self.old.stored.names other ≢ under (path_of self.old.stored.names at.entry.parent) at.entry.name.now → HasPath (remove self.old.stored.names (under (path_of self.old.stored.names at.entry.parent) at.entry.name.now)) other × (path_of (remove self.old.stored.names (under (path_of self.old.stored.names at.entry.parent) at.entry.name.now)) other ≡ path_of self.old.stored.names other) }
     {
@@ -112,6 +115,8 @@ impl Tables {
         requires differ { is_same_key (spot_of self.old.stored.names old.now).key (under (path_of self.old.stored.names new.parent) new.name.now) ≡ false }
         requires replaceable { IsReplaceable self.old.stored.inodes self.old.stored.names new.inode }
         ensures freed { self.new.stored ≡ name_free (under (path_of self.old.stored.names new.entry.parent) new.entry.name.now) new.entry.inode moment self.old.stored }
+        ensures room { self.new.room ≡ self.old.room }
+        ensures blocks { (gone : Option ℕ) × (self.new.blocks ≡ files_left File gone self.old.blocks) }
         ensures moves { CanMove self.old.stored.names self.new.stored.names old.now inode new.entry }
         ensures fits { Fits self.old.stored.inodes self.old.stored.names self.old.stored.files → Fits self.new.stored.inodes self.new.stored.names self.new.stored.files }
     {

@@ -508,7 +508,7 @@ module _ (resources : Resources) (context : Context) where
   ram-gives (msg.Stat rest) = gives_on _ (side_root context.target) _ (λ root is. stat_path-gives Same resources root rest context.moment refl)
   ram-gives (msg.Unlink rest) = gives_on _ (side_root context.target) _ (λ root is. unlink-gives Same File (λ inode s h. h) resources root rest context.moment refl)
   ram-gives (msg.Mknod mode rest) = gives_on _ (side_root context.target) _ (λ root is. directory-gives Same resources root mode rest context.moment refl)
-  ram-gives (msg.Rename from to) = gives_on _ (side_root context.target) _ (λ root is. rename-gives Same File (λ inode s h. h) resources root from to context.moment refl)
+  ram-gives (msg.Rename rests) = gives_on _ (side_root context.target) _ (λ root is. rename-gives Same File (λ inode s h. h) resources root rests.0 rests.1 context.moment refl)
   ram-gives (msg.Read count) = gives_on _ context.opened _ (λ over is. read_file-gives Same resources over count refl)
   ram-gives (msg.Write bytes) = gives_on _ context.opened _ (λ over is. write_file-gives Same resources over bytes refl)
   ram-gives msg.Close = gives_on _ context.opened _ (λ over is.
@@ -564,7 +564,7 @@ module _ (P : WaitingCall → Type 0) (caller : Caller) where
     pipe-gives own (msg.Stat rest) = gives_on _ (side_root context.target) _ (λ root is. quiet-gives _ (stat_path-gives (InPipes P) resources root rest context.moment h))
     pipe-gives own (msg.Unlink rest) = gives_on _ (side_root context.target) _ (λ root is. quiet-gives _ (unlink-gives (InPipes P) own (content-keeps P own) resources root rest context.moment h))
     pipe-gives own (msg.Mknod mode rest) = gives_error _ _
-    pipe-gives own (msg.Rename from to) = gives_error _ _
+    pipe-gives own (msg.Rename rests) = gives_error _ _
     pipe-gives own (msg.Read count) = gives_on _ context.opened _ (λ over is. read-own over count (callers over is))
     pipe-gives own (msg.Write bytes) = gives_on _ context.opened _ (λ over is. write-own over bytes (callers over is))
     pipe-gives own msg.Close = gives_on _ context.opened _ (λ over is.

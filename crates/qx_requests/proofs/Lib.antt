@@ -1,2 +1,3 @@
 -- what a judged request sends, and over what
+mod ContentLemmas
 mod SendLemmas

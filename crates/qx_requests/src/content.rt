@@ -4,13 +4,14 @@ ghost use Rattle.std.specs.Prelude.{◌≡◌, [], vec_capacity, IsOk, IsTrue, I
 ghost use Rattle.qx_bytes.specs.Memory.{FitInto, kept_beside};
 ghost use Rattle.qx_machine.specs.Calls as calls;
 ghost use Rattle.qx_machine.specs.Calls.{bytes_of, can_send, content_of, request_in_ranges};
+ghost use Rattle.qx_requests.specs.Targets.{Name, NameTwo};
 ghost use Rattle.qx_wire.specs.Rests.{components_of};
 
 use qx_machine::Content;
 use qx_paths::Path;
 use qx_types::{Bytes, Limits, MessageBytes, NoMemory, PulseValue, Request};
 use qx_wire::ranges::{are_conditions, are_flags, is_name, is_offset};
-use qx_wire::{BorrowedBytes, Message, Rest, encode};
+use qx_wire::{BorrowedBytes, Message, Rest, Rests, encode};
 use std::alloc::Global;
 
 /// The bytes that a request sends: the spelling of its message, with what its path has behind the mount, and so of a second
@@ -27,29 +28,18 @@ pub fn encoded(
     ensures kept { OnOk result (vec_capacity memory.new ≡ kept_beside (bytes_of (content_of request.now rest.now to.now)) (vec_capacity memory.old)) }
     ensures err { OnErr result (vec_capacity memory.new ≡ vec_capacity memory.old) }
 {
-    let rest = joined(*memory.allocator(), rest)?;
-    let to = match request {
-        Request::Rename { .. } => second(*memory.allocator(), to)?,
+    let named = match request {
+        Request::OpenPath { .. }
+        | Request::StatPath { .. }
+        | Request::Unlink { .. }
+        | Request::Mkdir { .. } => joined(*memory.allocator(), rest)?,
+        Request::Rename { .. } => both(*memory.allocator(), rest, to)?,
         _ => Bytes::new(*memory.allocator()),
     };
-    match content_of(
-        request,
-        Rest::new(rest.as_slice()),
-        Rest::new(to.as_slice()),
-    ) {
+    match content_of(request, named.as_slice(), rest, to) {
         Content::Spelled(message) => encode(memory, &message),
         Content::Raw(bytes) => Ok(MessageBytes::joined(memory, bytes.as_slice(), &[], &[])?),
     }
-}
-
-/// What the second path of a rename has behind the mount. A function of its own, so that no other call goes through it.
-#[cold]
-#[inline(never)]
-fn second(alloc: Global, to: &Path<'_>) -> Result<Bytes, NoMemory>
-    ensures to { IfOk result (λ bytes. components_of bytes ≡ to.now) }
-    ensures sure { to.now ≡ [] → IsOk result }
-{
-    Ok(to.joined(alloc)?)
 }
 
 /// What a path has behind the mount, as it stands in a message; for nothing no memory is taken.
@@ -62,6 +52,26 @@ fn joined(alloc: Global, rest: &Path<'_>) -> Result<Bytes, NoMemory>
         return Ok(Bytes::new(alloc));
     }
     Ok(rest.joined(alloc)?)
+}
+
+/// What both paths of a rename have behind the mount, as it stands in its message; for nothing no memory is taken. A function
+/// of its own, so that no other call goes through it.
+#[cold]
+#[inline(never)]
+fn both(alloc: Global, from: &Path<'_>, to: &Path<'_>) -> Result<Bytes, NoMemory>
+    ensures named { IfOk result (λ bytes. NameTwo bytes from.now to.now) }
+    ensures sure { from.now ≡ [] → to.now ≡ [] → IsOk result }
+{
+    if from.is_empty() && to.is_empty() {
+        return Ok(Bytes::new(alloc));
+    }
+    from.know();
+    let (from, to) = (from.joined(alloc)?, to.joined(alloc)?);
+    let len = (from.len() as u16).to_le_bytes();
+    let mut both = Vec::from_slice(alloc, &len)?;
+    both.extend_from_slice(from.as_slice())?;
+    both.extend_from_slice(to.as_slice())?;
+    Ok(Bytes::from_vec(both))
 }
 
 /// Whether each field of a request is in its range. A path is judged as a path, and the connection of a dup by whether it
@@ -104,16 +114,41 @@ pub(crate) fn is_in_ranges(request: &Request) -> bool
     }
 }
 
-/// What a request sends; of a path, what is behind its mount, and so of a second one.
-fn content_of<'a>(request: &'a Request, rest: Rest<'a>, to: Rest<'a>) -> Content<'a>
-    ensures { result ≡ calls.content_of request.now rest.entry to.entry }
+/// What two paths have behind the mount, as it stands in these bytes.
+#[tactic(auto, unfolding(qx_wire::specs::Rests::components_of, qx_wire::specs::Rests::rests_of))]
+fn rests_in<'a>(named: &'a [u8], from: &Path<'_>, to: &Path<'_>) -> Rests<'a>
+    requires named { NameTwo named.now from.now to.now }
+    ensures rests { result ≡ (from.now, to.now) }
 {
+    if named.is_empty() {
+        return Rests::new(&[0, 0]);
+    }
+    Rests::new(named)
+}
+
+/// What a request sends; of a path, what is behind its mount, and so of a second one, as it stands in these bytes.
+fn content_of<'a>(
+    request: &'a Request,
+    named: &'a [u8],
+    rest: &Path<'_>,
+    to: &Path<'_>,
+) -> Content<'a>
+    requires named { Name request.now named.now rest.now to.now }
+    ensures { result ≡ calls.content_of request.now rest.now to.now }
+{
+    let path = Rest::new(named);
     Content::Spelled(match *request {
-        Request::OpenPath { flags, mode, .. } => Message::Open { flags, mode, rest },
-        Request::StatPath { .. } => Message::Stat { rest },
-        Request::Unlink { .. } => Message::Unlink { rest },
-        Request::Mkdir { mode, .. } => Message::Mknod { mode, rest },
-        Request::Rename { .. } => Message::Rename { from: rest, to },
+        Request::OpenPath { flags, mode, .. } => Message::Open {
+            flags,
+            mode,
+            rest: path,
+        },
+        Request::StatPath { .. } => Message::Stat { rest: path },
+        Request::Unlink { .. } => Message::Unlink { rest: path },
+        Request::Mkdir { mode, .. } => Message::Mknod { mode, rest: path },
+        Request::Rename { .. } => Message::Rename {
+            rests: rests_in(named, rest, to),
+        },
         Request::Read { count, .. } => Message::Read { count },
         Request::Write { ref bytes, .. } => Message::Write {
             bytes: BorrowedBytes::new(bytes.as_slice()),

@@ -140,7 +140,7 @@ fn by_paths<'a>(
     requires there { Some process.now ≡ row_at processes.now thread.proc.num }
     requires priority { IsPriority prio.0 }
     ensures goes { IfOk result (λ addressed. CanGo addressed.target) }
-    ensures sendable { IfOk result (λ addressed. IsTrue (can_send (Spelled (msg.Rename addressed.rest addressed.to)))) }
+    ensures sendable { IfOk result (λ addressed. IsTrue (can_send (Spelled (msg.Rename (addressed.rest, addressed.to))))) }
     ensures rest { IfOk result (λ addressed. HasRest addressed.target.over addressed.rest addressed.to) }
     ensures place { IfOk result (λ addressed. CanAttachAt (row_at processes.now thread.proc.num) addressed.target) }
     ensures target { result ≡ calls.target_at config.now thread.proc.user.0 (mounts_of mounts.now thread.proc.user.0) processes.now process.now prio (ConnectsBoth path.now to.now) }

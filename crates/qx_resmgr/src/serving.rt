@@ -82,7 +82,8 @@ pub fn serve<M: Connect<S, W, T> + Io<S, W, T>, S: State<W, T>, W, T>(
             reply,
         ),
         Message::Unlink { rest } => manager.unlink(state, waits, side_root(target), &rest, moment),
-        Message::Rename { from, to } => {
+        Message::Rename { rests } => {
+            let (from, to) = (rests.from(), rests.to());
             manager.rename(state, waits, side_root(target), &from, &to, moment)
         }
         Message::Read { count } => manager.read(state, waits, opened, count, reply, room),

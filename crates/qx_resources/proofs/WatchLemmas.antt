@@ -61,7 +61,7 @@ module _ (r : Resources) (no_stale : HasNoStalePipe r) (context : Context) where
   ram-settled (msg.Stat rest) = still r (msg.Stat rest) context.opened _ refl (gives_on _ (side_root context.target) _ (λ root is. stat_path-still r root rest context.moment))
   ram-settled (msg.Unlink rest) = still r (msg.Unlink rest) context.opened _ refl (gives_on _ (side_root context.target) _ (λ root is. unlink-still kind.File r root rest context.moment))
   ram-settled (msg.Mknod mode rest) = still r (msg.Mknod mode rest) context.opened _ refl (gives_on _ (side_root context.target) _ (λ root is. directory-still r no_stale root mode rest context.moment))
-  ram-settled (msg.Rename from to) = still r (msg.Rename from to) context.opened _ refl (gives_on _ (side_root context.target) _ (λ root is. rename-still kind.File r root from to context.moment))
+  ram-settled (msg.Rename rests) = still r (msg.Rename rests) context.opened _ refl (gives_on _ (side_root context.target) _ (λ root is. rename-still kind.File r root rests.0 rests.1 context.moment))
   ram-settled (msg.Read count) = over_opened r (Known (msg.Read count)) context.opened _ (λ over. read_file-settled r over count)
   ram-settled (msg.Write bytes) = over_opened r (Known (msg.Write bytes)) context.opened _ (λ over. write_file-settled r over bytes)
   ram-settled msg.Close = over_opened r (Known msg.Close) context.opened _ (λ over. close_dup-settled kind.File r over)
@@ -77,7 +77,7 @@ module _ (r : Resources) (no_stale : HasNoStalePipe r) (context : Context) where
   pipe-settled own (msg.Stat rest) = still r (msg.Stat rest) context.opened _ refl (gives_on _ (side_root context.target) _ (λ root is. stat_path-still r root rest context.moment))
   pipe-settled own (msg.Unlink rest) = still r (msg.Unlink rest) context.opened _ refl (gives_on _ (side_root context.target) _ (λ root is. unlink-still own r root rest context.moment))
   pipe-settled own (msg.Mknod mode rest) = gives_error _ _
-  pipe-settled own (msg.Rename from to) = gives_error _ _
+  pipe-settled own (msg.Rename rests) = gives_error _ _
   pipe-settled own (msg.Read count) = over_opened r (Known (msg.Read count)) context.opened _ (λ over. read_pipe-settled r over count)
   pipe-settled own (msg.Write bytes) = over_opened r (Known (msg.Write bytes)) context.opened _ (λ over. write_pipe-settled r over bytes)
   pipe-settled own msg.Close = over_opened r (Known msg.Close) context.opened _ (λ over. close_dup-settled own r over)

@@ -111,12 +111,12 @@ rename_takes bytes fits m e =
     let f = peel w16 (2 ^ 16) wide16 bytes _ m fits e in
     let from = take f.n f.rest in
     let to = drop f.n f.rest in
-    let g = some_else_none (leb f.n (length f.rest)) (Some (msg.Rename (components_of from) (components_of to))) m f.goes_on in
+    let g = some_else_none (leb f.n (length f.rest)) (Some (msg.Rename (components_of from, components_of to))) m f.goes_on in
     let len : length (joined (components_of from)) ≡ f.n = ap length (joined_components from) ∙ length-take-le f.n f.rest (leb-true _ _ g.0) in
     let texts : joined (components_of from) ++ (joined (components_of to) ++ []) ≡ f.rest = rw (joined_components from, all to (joined (components_of to)) (joined_components to)) (take-append-drop f.n f.rest) in
     subst (λ (m : Message). Has 256 5 bytes m) (same_Some _ _ g.1) (record { type = refl; subtype = refl; body = ap (λ (n : ℕ). to_le_bytes w16 n ++ (joined (components_of from) ++ (joined (components_of to) ++ []))) len ∙ put_back f _ texts })
 
-pub rename_again : (from to : List (List ℕ)) → in_ranges (msg.Rename from to) ≡ true → rename_at (body (row (msg.Rename from to)).fields) ≡ Some (msg.Rename from to)
+pub rename_again : (from to : List (List ℕ)) → in_ranges (msg.Rename (from, to)) ≡ true → rename_at (body (row (msg.Rename (from, to))).fields) ≡ Some (msg.Rename (from, to))
 unfolding rename_at
 rename_again from to e =
     let good : is_rest from ≡ true = grind (arith, nat_tests) in

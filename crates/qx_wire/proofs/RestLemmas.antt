@@ -1,13 +1,16 @@
 -- Cutting bytes at each '/' and joining components again.
-use Rattle.std.proofs.Common.{◌≡◌, ℕ, ◌+◌, ◌-◌, ◌<◌, ◌≤◌, Bool, true, false, cond, not, ◌&&◌, eqb, ltb, List, [], ◌∷◌, length, take, drop, Some, None, refl, ap, ◌∙◌, subst, arith}
+use Rattle.std.proofs.Common.{◌≡◌, ℕ, ◌+◌, ◌-◌, ◌^◌, ◌<◌, ◌≤◌, Bool, true, false, cond, not, ◌&&◌, eqb, ltb, List, [], ◌∷◌, ◌++◌, length, take, drop, Some, None, refl, sym, ap, ◌∙◌, subst, arith}
 use Rattle.std.specs.Prelude.{position}
+use Rattle.std.specs.Int.{w16, to_le_bytes}
 use Rattle.std.specs.List.{list_all, slice_split, All, position_or_len}
+use Rattle.std.proofs.Math.Seq.{drop-append_seam, take-append_seam}
 use Rattle.std.proofs.lemmas.Bool.{ltb-false, ltb-true, leb-true}
 use Rattle.std.proofs.lemmas.Option.{cond_some}
-use Rattle.std.proofs.lemmas.List.{take_all, length-drop, length-append}
+use Rattle.std.proofs.lemmas.List.{take_all, take-append-drop, length-drop, length-append, length-take, length-take-le}
 use Rattle.std.proofs.lemmas.List.Sums.{fails_before_first, AllPass-from_list_all}
 use Rattle.std.proofs.lemmas.List.Splits.{slice_split_none, slice_split_first, slice_split_at, join_with_byte-slice_split}
-use Rattle.qx_wire.specs.Rests.{joined, components_of, is_component, is_name_byte}
+use Rattle.qx_wire.specs.Rests.{AreRests, joined, components_of, first_length, is_component, is_name_byte, rests_bytes, rests_of}
+use Rattle.qx_wire.proofs.FieldLemmas.{IsBytes, IsBytes-take, wide16}
 
 abbrev slash : ℕ → Bool
 slash x = eqb x 47
@@ -84,3 +87,23 @@ pub components_joined : (cs : List (List ℕ)) → list_all is_component cs ≡ 
 unfolding components_of
 components_joined [] e = refl
 components_joined (c ∷ cs) e = components_some (joined (c ∷ cs)) (joined_some c cs (is_part c (and_true _ _ e).0)) ∙ split_joined c cs e
+
+-- ---- two rests
+
+pub rests_again : (bytes : List ℕ) → IsBytes bytes → AreRests bytes → bytes ≡ rests_bytes (rests_of bytes)
+unfolding rests_of
+rests_again bytes fits are =
+    let n = first_length bytes in
+    let both = drop 2 bytes in
+    let front : to_le_bytes w16 n ≡ take 2 bytes = wide16.back (take 2 bytes) (omega (arith, length-take 2 bytes, are)) (IsBytes-take 2 bytes fits) in
+    let len : length (joined (components_of (take n both))) ≡ n = ap length (joined_components (take n both)) ∙ length-take-le n both (omega (arith, length-drop 2 bytes, are)) in
+    let texts : joined (components_of (take n both)) ++ joined (components_of (drop n both)) ≡ both = rw (joined_components (take n both), joined_components (drop n both)) (take-append-drop n both) in
+    sym (ap (λ (m : ℕ). to_le_bytes w16 m ++ (joined (components_of (take n both)) ++ joined (components_of (drop n both)))) len
+    ∙ (ap (λ (behind : List ℕ). to_le_bytes w16 n ++ behind) texts ∙ (ap (λ (before : List ℕ). before ++ both) front ∙ take-append-drop 2 bytes)))
+
+-- the bytes of two are these two
+pub two_rests : (from to : List ℕ) → length from < 2 ^ 16 → AreRests (to_le_bytes w16 (length from) ++ (from ++ to)) × (rests_of (to_le_bytes w16 (length from) ++ (from ++ to)) ≡ (components_of from, components_of to))
+unfolding rests_of
+two_rests from to few =
+    let first : first_length (to_le_bytes w16 (length from) ++ (from ++ to)) ≡ length from = wide16.again (length from) few in
+    (omega (arith, first, length-append from to), rw (first, take-append_seam, drop-append_seam) refl)

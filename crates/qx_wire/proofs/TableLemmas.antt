@@ -43,7 +43,7 @@ are_cases bytes fits =
     record { takes = stat_takes bytes; kind = (msg.Stat [], refl, refl) } ⊗
     record { takes = unlink_takes bytes; kind = (msg.Unlink [], refl, refl) } ⊗
     record { takes = mknod_takes bytes fits; kind = (msg.Mknod 0 [], refl, refl) } ⊗
-    record { takes = rename_takes bytes fits; kind = (msg.Rename [] [], refl, refl) } ⊗
+    record { takes = rename_takes bytes fits; kind = (msg.Rename ([], []), refl, refl) } ⊗
     record { takes = read_takes bytes fits; kind = (msg.Read 0, refl, refl) } ⊗
     record { takes = write_takes bytes; kind = (msg.Write [], refl, refl) } ⊗
     record { takes = close_takes bytes; kind = (msg.Close, refl, refl) } ⊗
@@ -107,7 +107,7 @@ has_case (msg.Open f mode rest) bytes e = cut_not_unknown (open_at bytes) e
 has_case (msg.Stat rest) bytes e = cut_not_unknown (Some (msg.Stat (components_of bytes))) e
 has_case (msg.Unlink rest) bytes e = cut_not_unknown (Some (msg.Unlink (components_of bytes))) e
 has_case (msg.Mknod mode rest) bytes e = cut_not_unknown (mknod_at bytes) e
-has_case (msg.Rename from to) bytes e = cut_not_unknown (rename_at bytes) e
+has_case (msg.Rename rests) bytes e = cut_not_unknown (rename_at bytes) e
 has_case (msg.Read n) bytes e = cut_not_unknown (read_at bytes) e
 has_case (msg.Write payload) bytes e = cut_not_unknown (Some (msg.Write bytes)) e
 has_case msg.Close bytes e = cut_not_unknown (ended bytes msg.Close) e
@@ -158,7 +158,7 @@ is_read (msg.Open f mode rest) e = record { again = ap known_or_malformed (open_
 is_read (msg.Stat rest) e = record { again = ap known_or_malformed (ap (λ (r : List (List ℕ)). Some (msg.Stat r)) (rest_again rest (and_true (is_rest rest) true e).0)); type = omega arith; subtype = omega arith; short = let r = rest_short rest (and_true (is_rest rest) true e).0 in omega arith }
 is_read (msg.Unlink rest) e = record { again = ap known_or_malformed (ap (λ (r : List (List ℕ)). Some (msg.Unlink r)) (rest_again rest (and_true (is_rest rest) true e).0)); type = omega arith; subtype = omega arith; short = let r = rest_short rest (and_true (is_rest rest) true e).0 in omega arith }
 is_read (msg.Mknod mode rest) e = record { again = ap known_or_malformed (mknod_again mode rest e); type = omega arith; subtype = omega arith; short = let r = rest_short rest (grind (arith, nat_tests)) in omega arith }
-is_read (msg.Rename from to) e = record { again = ap known_or_malformed (rename_again from to e); type = omega arith; subtype = omega arith; short = rename_short from to (grind (arith, nat_tests)) (grind (arith, nat_tests)) }
+is_read (msg.Rename rests) e = record { again = ap known_or_malformed (rename_again rests.0 rests.1 e); type = omega arith; subtype = omega arith; short = rename_short rests.0 rests.1 (grind (arith, nat_tests)) (grind (arith, nat_tests)) }
 is_read (msg.Read n) e = record { again = ap known_or_malformed (read_again n e); type = omega arith; subtype = omega arith; short = omega arith }
 is_read (msg.Write payload) e = record { again = ap known_or_malformed (ap (λ (b : List ℕ). Some (msg.Write b)) (append-nil payload)); type = omega arith; subtype = omega arith; short = let r = plain_short payload TRANSFER (leb-true _ _ (and_true (leb (length payload) TRANSFER) true e).0) in omega arith }
 is_read (msg.Dup old) e = record { again = ap known_or_malformed (dup_again old e); type = omega arith; subtype = omega arith; short = omega arith }

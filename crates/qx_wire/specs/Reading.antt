@@ -40,7 +40,7 @@ mknod_at body = do
 unfoldable pub rename_at : List ℕ → Option Message
 rename_at body = do
   len ← number_at w16 body
-  if nat_le len.0 (length len.1) then Some (msg.Rename (components_of (take len.0 len.1)) (components_of (drop len.0 len.1))) else None
+  if nat_le len.0 (length len.1) then Some (msg.Rename (components_of (take len.0 len.1), components_of (drop len.0 len.1))) else None
 
 unfoldable pub read_at : List ℕ → Option Message
 read_at body = do

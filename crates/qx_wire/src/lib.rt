@@ -1,7 +1,8 @@
 //! Messages as bytes: the table of messages, and writing and reading by it.
 //!
 //! - `message.rt`: `Message` and `Meaning`
-//! - `borrowed.rt`, `rest.rt`: bytes that stand elsewhere; a path's rest, and the walk over its components
+//! - `borrowed.rt`, `rest.rt`, `rests.rt`: bytes that stand elsewhere; a path's rest, and the walk over its components; the
+//!   rests of a rename's two paths
 //! - `ranges.rt`: whether each value of a message is in its range
 //! - `writing.rt`: `encode`, a message's one spelling
 //! - `reading.rt`, `parsed.rt`: what bytes are cut into; `Parsed`, bytes together with what they mean
@@ -20,6 +21,7 @@ pub mod parsed;
 pub mod ranges;
 mod reading;
 pub mod rest;
+pub mod rests;
 pub mod writing;
 
 pub use borrowed::BorrowedBytes;
@@ -27,4 +29,5 @@ pub use message::{Meaning, Message};
 pub use parsed::{Parsed, meaning};
 pub use ranges::in_ranges;
 pub use rest::{Components, Rest};
+pub use rests::Rests;
 pub use writing::encode;

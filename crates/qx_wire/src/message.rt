@@ -1,5 +1,6 @@
 use crate::borrowed::BorrowedBytes;
 use crate::rest::Rest;
+use crate::rests::Rests;
 use qx_types::{Coid, Conds, NotifyAction, OFlags, PulseValue, Whence};
 
 /// What a client tells a manager. Its texts and bytes stand in the bytes that it was read from. The names beside are
@@ -28,8 +29,7 @@ pub enum Message<'a> {
     },
     /// Gives what has a name another one, in the same mount (`_IO_CONNECT_RENAME`). Both are behind the root of that.
     Rename {
-        from: Rest<'a>,
-        to: Rest<'a>,
+        rests: Rests<'a>,
     },
     /// Reads at most `count` bytes, of which there may be 0 to 4,096 (`_IO_READ`).
     Read {

@@ -19,7 +19,7 @@ pub fn in_ranges(message: &Message<'_>) -> bool
         }
         Message::Stat { rest } | Message::Unlink { rest } => rest.is_good(),
         Message::Mknod { mode, rest } => *mode <= Limits::MODE && rest.is_good(),
-        Message::Rename { from, to } => from.is_good() && to.is_good(),
+        Message::Rename { rests } => rests.from().is_good() && rests.to().is_good(),
         Message::Read { count } => *count <= Limits::TRANSFER as u32,
         Message::Write { bytes } => bytes.as_slice().len() <= Limits::TRANSFER,
         Message::Close | Message::Fstat => true,

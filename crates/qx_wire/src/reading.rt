@@ -9,6 +9,7 @@ use crate::borrowed::BorrowedBytes;
 use crate::message::{Meaning, Message};
 use crate::ranges::in_ranges;
 use crate::rest::Rest;
+use crate::rests::Rests;
 use qx_types::{Coid, Conds, Limits, NotifyAction, OFlags, PulseValue, Whence};
 
 /// A number of 8 bits, and the bytes after it.
@@ -95,15 +96,16 @@ fn mknod_at(body: &[u8]) -> Option<Message<'_>>
     })
 }
 
-#[tactic(auto, unfolding(crate::specs::Reading::rename_at))]
+#[tactic(auto, unfolding(crate::specs::Reading::rename_at, crate::specs::Rests::rests_of))]
 fn rename_at(body: &[u8]) -> Option<Message<'_>>
     ensures { result ≡ rename_at body.now }
 {
-    let (len, body) = u16_at(body)?;
-    let (from, to) = body.split_at_checked(usize::from(len))?;
+    let (len, both) = u16_at(body)?;
+    if both.len() < usize::from(len) {
+        return None;
+    }
     Some(Message::Rename {
-        from: Rest::new(from),
-        to: Rest::new(to),
+        rests: Rests::new(body),
     })
 }
 

@@ -1,7 +1,7 @@
 ghost use Rattle.std.specs.Prelude.{◌≡◌, ◌≤◌, ◌++◌, IsTrue, IfOk, IsOk, OnErr, OnOk, length, vec_capacity};
 ghost use Rattle.std.specs.Int.{w8, w16, w32, w64, to_le_bytes};
 ghost use Rattle.qx_bytes.specs.Memory.{FitInto, kept_beside};
-ghost use Rattle.qx_types.specs.declared.limits.TheConstants.Limits.{BODY, PATH};
+ghost use Rattle.qx_types.specs.declared.limits.TheConstants.Limits.{BODY};
 ghost use Rattle.qx_wire.specs.Table.{action_number, framed, in_ranges, spelling, whence_number};
 
 use crate::message::Message;
@@ -25,7 +25,7 @@ pub fn encode(memory: &mut Vec<u8>, message: &Message<'_>) -> Result<MessageByte
         Message::Stat { rest } => framed(memory, 256, 2, &[], rest.as_slice()),
         Message::Unlink { rest } => framed(memory, 256, 3, &[], rest.as_slice()),
         Message::Mknod { mode, rest } => framed(memory, 256, 4, &words(2, *mode), rest.as_slice()),
-        Message::Rename { from, to } => renaming(memory, from.as_slice(), to.as_slice()),
+        Message::Rename { rests } => framed(memory, 256, 5, &[], rests.as_slice()),
         Message::Read { count } => framed(memory, 257, 0, &count.to_le_bytes(), &[]),
         Message::Write { bytes } => framed(memory, 258, 0, &[], bytes.as_slice()),
         Message::Close => framed(memory, 259, 0, &[], &[]),
@@ -134,22 +134,6 @@ fn framed(
     let len = numbers.len() + text.len();
     let header = header(kind, subtype, len as u32);
     Ok(MessageBytes::joined(memory, &header, numbers, text)?)
-}
-
-/// What a rename has: a header, the length of the first text, and both.
-fn renaming(memory: &mut Vec<u8>, from: &[u8], to: &[u8]) -> Result<MessageBytes, NoMemory>
-    requires short { length from.now ≤ PATH }
-    requires fits { length (to_le_bytes w16 (length from.now) ++ (from.now ++ to.now)) ≤ BODY }
-    ensures framed { IfOk result (λ bytes. bytes ≡ framed 256 5 (to_le_bytes w16 (length from.now) ++ (from.now ++ to.now))) }
-    ensures sure { FitInto (framed 256 5 (to_le_bytes w16 (length from.now) ++ (from.now ++ to.now))) (vec_capacity memory.old) → IsOk result }
-    ensures kept { OnOk result (vec_capacity memory.new ≡ kept_beside (framed 256 5 (to_le_bytes w16 (length from.now) ++ (from.now ++ to.now))) (vec_capacity memory.old)) }
-    ensures err { OnErr result (vec_capacity memory.new ≡ vec_capacity memory.old) }
-{
-    let len = 2 + from.len() + to.len();
-    let [h0, h1, h2, h3, h4, h5, h6, h7] = header(256, 5, len as u32);
-    let [l0, l1] = (from.len() as u16).to_le_bytes();
-    let numbers = [h0, h1, h2, h3, h4, h5, h6, h7, l0, l1];
-    Ok(MessageBytes::joined(memory, &numbers, from, to)?)
 }
 
 /// A header: the type, the subtype and the length of the body.

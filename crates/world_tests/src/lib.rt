@@ -3,7 +3,7 @@
 //!
 //! - `script.rt`, `same.rt`: the tests' steps, from lines of a script; two traces compared by all that can be seen of
 //!   them
-//! - `memory.rt`, `served.rt`: the steps whose memory is refused; those that are taken with no memory at all
+//! - `memory.rt`, `rows.rt`: steps whose memory is refused; their lines
 //! - `reads.rt`: what a script does not ask a trace and a world for
 //! - `nodes.rt`: a node of `Queues` that comes back
 //! - `calling.rt`, `asked.rt`: the example, a request that is taken from its call to its answer; its test
@@ -25,8 +25,8 @@ mod pool;
 #[cfg(test)]
 mod reads;
 #[cfg(test)]
+mod rows;
+#[cfg(test)]
 mod same;
 #[cfg(test)]
 mod script;
-#[cfg(test)]
-mod served;

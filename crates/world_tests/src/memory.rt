@@ -1,227 +1,254 @@
-//! Refused memory: the step comes back, nothing has changed, and the same step is then taken.
+//! Refused memory: as long as a step is refused it comes back and nothing has changed; then that very step is taken.
 
-use crate::same::is_same;
-use crate::script::{booted, ran, steps, store};
-use crate::served::CALLED;
+use crate::reads::{RECEIVE, held};
+use crate::rows::ROWS;
+use crate::same::{is_same, is_same_received, is_same_so_far};
+use crate::script::{booted, ran, steps, store, store_all};
 use all_memory::take_all_memory;
-use qx_types::{NoMemory, Step};
-use qx_world::Traced;
+use qx_machine::Entry;
+use qx_types::{NoMemory, Outcome, Step, User};
+use qx_world::{Traced, Work};
 use std::alloc::{AllocError, Global};
 use std::process::Abort;
 
-/// Every kind of step but an interrupt, every way of a call, and a disconnect pulse, for two users and two workers.
-const KINDS: &str = "\
-    spawn bob 4 10\n\
-    spawn ann 1 10\n\
-    open ann.1.1 /ann r 000\n\
-    open bob.1.1 /bob r 000\n\
-    receive 1 ram\n\
-    perform 1 5\n\
-    reply ann.1.1\n\
-    fstat ann.1.1 3\n\
-    receive 2 ram\n\
-    receive 1 ram\n\
-    perform 1 6\n\
-    reply ann.1.1\n\
-    prio ann.1.1 20\n\
-    close ann.1.1 3\n\
-    receive 1 pipe\n\
-    receive 1 ram\n\
-    perform 1 7\n\
-    perform 2 8\n\
-    reply bob.1.1\n\
-    stat bob.1.2 /bob\n\
-    dup bob.1.3 3\n\
-    raw bob.1.4 3 00\n\
-    write bob.1.1 3 01020304\n\
-    reply ann.1.1\n\
-    receive 1 ram\n\
-    perform 1 9\n\
-    pulse ann.1\n\
-    mount ann.1.1 /ann/m/n pipe\n\
-    exit bob.1\n\
-    receive 1 ram\n\
-    perform 1 9\n\
-    rename ann.1.1 /ann/of_more_than_twenty_bytes /ann/of_twenty_bytes_more\n";
+/// More than there are pieces of memory.
+const MORE: u32 = 1 << 20;
 
-/// An open that makes a file, a write that makes it longer, a directory that is made, for whose entry there is room, a mount
-/// of RAM, an open that makes a pipe, a notification that arms an event, an open that makes a device, a read that waits there
-/// and a write that answers it, and a directory that is made in the first one.
-const GROWTHS: &str = "\
-    spawn ann 2 10\n\
-    open ann.1.1 /ann/f rwc 644\n\
-    receive 1 ram\n\
-    perform 1 5\n\
-    reply ann.1.1\n\
-    write ann.1.1 3 01020304\n\
-    receive 1 ram\n\
-    perform 1 6\n\
-    reply ann.1.1\n\
-    mkdir ann.1.1 /ann/d 755\n\
-    receive 1 ram\n\
-    perform 1 7\n\
-    reply ann.1.1\n\
-    mount ann.1.1 /ann/m ram\n\
-    mount ann.1.1 /ann/p pipe\n\
-    open ann.1.1 /ann/p/f rwc 600\n\
-    receive 1 pipe\n\
-    perform 1 8\n\
-    reply ann.1.1\n\
-    notify ann.1.1 4 pollarm i 5 7\n\
-    receive 1 pipe\n\
-    perform 1 8\n\
-    reply ann.1.1\n\
-    mount ann.1.1 /ann/latch latch\n\
-    open ann.1.1 /ann/latch/f rwc 600\n\
-    receive 1 latch\n\
-    perform 1 8\n\
-    reply ann.1.1\n\
-    read ann.1.2 5 4\n\
-    receive 1 latch\n\
-    perform 1 10\n\
-    write ann.1.1 5 0102\n\
-    receive 1 latch\n\
-    perform 1 10\n\
-    reply ann.1.1\n\
-    reply ann.1.2\n\
-    mkdir ann.1.1 /ann/d/e 755\n\
-    receive 1 ram\n\
-    perform 1 9\n";
+/// Asks while these pieces of memory are kept, and again with one of them less at each time, the smallest first, until
+/// something is given; and whether it was refused at first.
+pub(crate) fn at_last<T: Drop, F: FnMut() -> Option<T>>(
+    mut pieces: Vec<Vec<u8>>,
+    mut ask: F,
+) -> Option<(T, bool)>
+    requires { F.IsAlwaysCallable ask }
+{
+    let mut is_refused = false;
+    for _ in 0..MORE {
+        if let Some(given) = ask() {
+            return Some((given, is_refused));
+        }
+        is_refused = true;
+        pieces.pop();
+    }
+    None
+}
 
-/// A process more.
-const SPAWN: &str = "spawn bob 1 10\n";
+/// How the steps of a run are refused memory.
+#[derive(Clone, Copy, PartialEq, Eq)]
+enum Way {
+    /// All of it is taken.
+    All,
+    /// The same, and a perform is handed the work, which was read before.
+    AllOfWork,
+    /// By `rt try --test --fail-alloc N`, once in a run.
+    Once,
+}
 
-/// The lines whose steps can't be taken without memory.
-const NEEDY: [&str; 6] = [
-    "perform 1 5",
-    "perform 1 6",
-    "mount ann.1.1 /ann/m ram",
-    "perform 1 8",
-    "perform 1 9",
-    "spawn bob 1 10",
-];
-
-/// Takes a copy of a step. Where it is refused, whether it comes back as it was.
-fn came_back(traced: &mut Traced, step: &Step, copy: Step) -> Option<bool> {
-    match traced.step(copy) {
-        Ok(_) => None,
-        Err(unstored) => Some(unstored.step == *step),
+/// Takes a step, or hands it back.
+fn attempt(traced: &mut Traced, step: Step, work: Option<&Work>) -> Result<(), Step> {
+    match (&step, work) {
+        (&Step::Perform { worker, moment }, Some(work)) => {
+            match traced.perform(worker, work, moment) {
+                Ok(_) => Ok(()),
+                Err(_) => Err(step),
+            }
+        }
+        _ => match traced.step(step) {
+            Ok(_) => Ok(()),
+            Err(unstored) => Err(unstored.step),
+        },
     }
 }
 
-/// Asserts that all is as in a run without trouble.
-fn assert_untroubled(
+/// Takes a step at last. Whether it was refused at first; none where it was not taken, or something was not as in a run
+/// without it while it was refused.
+fn take_at_last(
+    pieces: Vec<Vec<u8>>,
+    traced: &mut Traced,
+    before: &Traced,
+    step: Step,
+    work: Option<&Work>,
+) -> Option<bool> {
+    let mut next = Some(step);
+    let mut is_same = true;
+    let ((), is_refused) = at_last(pieces, || match attempt(traced, next.take()?, work) {
+        Ok(()) => Some(()),
+        Err(step) => {
+            next = Some(step);
+            is_same = is_same && is_same_so_far(traced, before);
+            None
+        }
+    })?;
+    is_same.then_some(is_refused)
+}
+
+/// What a perform is handed.
+fn handed(way: Way, traced: &Traced, step: &Step) -> Result<Option<Work>, NoMemory> {
+    match step {
+        Step::Perform { worker, .. } if way == Way::AllOfWork => held(traced.world(), *worker),
+        _ => Ok(None),
+    }
+}
+
+/// Of a piece of memory that is kept over many steps.
+const LARGE: usize = 1 << 26;
+
+/// Takes all memory but small pieces, so that to take all that is left is quick.
+fn take_most_memory(alloc: Global) -> Result<Vec<Vec<u8>>, AllocError> {
+    let mut pieces = take_all_memory(alloc)?;
+    while pieces.last().is_some_and(|piece| piece.capacity() < LARGE) {
+        pieces.pop();
+    }
+    Ok(pieces)
+}
+
+/// The memory that is taken as a step is tried.
+fn taken(alloc: Global, way: Way) -> Result<Vec<Vec<u8>>, AllocError> {
+    match way {
+        Way::All | Way::AllOfWork => take_all_memory(alloc),
+        Way::Once => Ok(Vec::new(alloc)),
+    }
+}
+
+/// Whether a step came to an error, or to nothing at all.
+fn is_failure(entry: &Entry) -> bool {
+    matches!(
+        entry.outcome,
+        Outcome::Refused(_)
+            | Outcome::Failed(_)
+            | Outcome::WrongState
+            | Outcome::NoPulse
+            | Outcome::Idle
+            | Outcome::Busy
+            | Outcome::Nothing
+    )
+}
+
+/// Takes the step of a line, for which there is room in the trace. It is refused at first and it fails where the line says so,
+/// and after a refusal all is as in a run without trouble.
+fn take_line(
     rt: &impl Abort,
-    traced: &Traced,
-    untroubled: &Traced,
+    alloc: Global,
+    way: Way,
+    traced: &mut Traced,
+    untroubled: &mut Traced,
+    line: &str,
+    step: &Step,
 ) -> Result<(), NoMemory> {
-    assert!(rt; is_same(traced, untroubled)?);
+    let (copy, work) = (step.clone()?, handed(way, traced, step)?);
+    traced.reserve(1)?;
+    let pieces = taken(alloc, way)?;
+    let is_refused = take_at_last(pieces, traced, untroubled, copy, work.as_ref());
+    let wants = line.starts_with("! ");
+    let is_as_marked = is_refused == Some(wants) || way == Way::Once && is_refused == Some(false);
+    assert!(rt; is_as_marked, "at {line}");
+    store(untroubled, step)?;
+    assert!(rt; is_refused == Some(false) || is_same(traced, untroubled)?);
+    let is_failed = traced.entries().last().map(is_failure);
+    assert!(rt; is_failed == Some(line.starts_with("? ")), "at {line}");
     Ok(())
 }
 
-/// Takes a step in a run and in one without trouble. Then all is the same in both.
-fn take(
-    rt: &impl Abort,
-    traced: &mut Traced,
-    untroubled: &mut Traced,
-    step: &Step,
-) -> Result<(), NoMemory> {
-    store(traced, step)?;
-    store(untroubled, step)?;
-    assert_untroubled(rt, traced, untroubled)
-}
-
-/// Takes a step. Where it is refused it comes back, nothing has changed, and it is taken again.
-fn take_at_last(
-    rt: &impl Abort,
-    traced: &mut Traced,
-    untroubled: &mut Traced,
-    step: &Step,
-) -> Result<(), NoMemory> {
-    match came_back(traced, step, step.clone()?) {
-        None => store(untroubled, step),
-        Some(same) => {
-            assert!(rt; same);
-            assert_untroubled(rt, traced, untroubled)?;
-            take(rt, traced, untroubled, step)
-        }
-    }
-}
-
-/// Takes steps, each at last.
-fn take_all_at_last(
-    rt: &impl Abort,
-    traced: &mut Traced,
-    untroubled: &mut Traced,
-    steps: &[Step],
-) -> Result<(), NoMemory> {
-    for step in steps {
-        take_at_last(rt, traced, untroubled, step)?;
-    }
-    assert_untroubled(rt, traced, untroubled)
-}
-
-/// The steps of lines are taken, each at last.
-fn are_taken_at_last(rt: &impl Abort, alloc: Global, lines: &str) -> Result<(), NoMemory> {
-    let steps = steps(rt, alloc, lines)?;
-    let mut traced = booted(rt, alloc)?;
-    let mut untroubled = booted(rt, alloc)?;
-    take_all_at_last(rt, &mut traced, &mut untroubled, &steps)
-}
-
-#[test]
-fn each_kind_of_step_is_taken_at_last(rt: HostRuntime) -> Result<(), NoMemory> {
-    are_taken_at_last(&rt, rt.alloc(), KINDS)
-}
-
-#[test]
-fn each_growth_is_taken_at_last(rt: HostRuntime) -> Result<(), NoMemory> {
-    are_taken_at_last(&rt, rt.alloc(), GROWTHS)
-}
-
-/// With all memory taken, whether a step is refused and comes back.
-fn comes_back_without_memory(
-    alloc: Global,
-    traced: &mut Traced,
-    step: &Step,
-) -> Result<bool, AllocError> {
-    let copy = step.clone()?;
-    let pieces = take_all_memory(alloc)?;
-    let came_back = came_back(traced, step, copy);
-    drop(pieces);
-    Ok(came_back == Some(true))
-}
-
-/// Takes the steps of lines. Those that can't be taken without memory come back first, with all memory taken, though there
-/// is room for them in the trace, and nothing has changed.
-fn take_needy(
+/// Takes the steps of lines, each at last. Then all is as in a run without trouble.
+fn take_lines(
     rt: &impl Abort,
     alloc: Global,
-    traced: &mut Traced,
-    untroubled: &mut Traced,
+    way: Way,
+    before: &str,
     lines: &str,
 ) -> Result<(), NoMemory> {
     let steps = steps(rt, alloc, lines)?;
+    let mut traced = ran(rt, alloc, before)?;
+    let mut untroubled = ran(rt, alloc, before)?;
     for (line, step) in lines.lines().zip(steps.iter()) {
-        if NEEDY.contains(&line) {
-            traced.reserve(1)?;
-            assert!(rt;
-                comes_back_without_memory(alloc, traced, step)?,
-                "at {line}"
-            );
-            assert_untroubled(rt, traced, untroubled)?;
+        take_line(rt, alloc, way, &mut traced, &mut untroubled, line, step)?;
+    }
+    assert!(rt; is_same(&traced, &untroubled)?);
+    Ok(())
+}
+
+fn take_rows(rt: &impl Abort, alloc: Global, way: Way) -> Result<(), NoMemory> {
+    for (before, all) in ROWS {
+        for lines in all {
+            take_lines(rt, alloc, way, before, lines)?;
         }
-        take(rt, traced, untroubled, step)?;
     }
     Ok(())
 }
 
+/// Takes the steps of all rows where there is little memory.
+fn take_rows_without_memory(rt: &impl Abort, alloc: Global, way: Way) -> Result<(), NoMemory> {
+    let pieces = take_most_memory(alloc)?;
+    take_rows(rt, alloc, way)?;
+    drop(pieces);
+    Ok(())
+}
+
 #[test]
-fn steps_come_back_while_all_memory_is_refused(rt: HostRuntime) -> Result<(), NoMemory> {
-    for (before, lines) in [("", GROWTHS), (CALLED, SPAWN)] {
-        let mut traced = ran(&rt, rt.alloc(), before)?;
-        let mut untroubled = ran(&rt, rt.alloc(), before)?;
-        take_needy(&rt, rt.alloc(), &mut traced, &mut untroubled, lines)?;
-    }
+fn steps_are_taken_at_last(rt: HostRuntime) -> Result<(), NoMemory> {
+    take_rows_without_memory(&rt, rt.alloc(), Way::All)
+}
+
+#[test]
+fn work_is_performed_at_last(rt: HostRuntime) -> Result<(), NoMemory> {
+    take_rows_without_memory(&rt, rt.alloc(), Way::AllOfWork)
+}
+
+#[test]
+fn each_request_of_a_step_is_refused(rt: HostRuntime) -> Result<(), NoMemory> {
+    take_rows(&rt, rt.alloc(), Way::Once)
+}
+
+/// What a user received and the run of the user's own steps are refused at first, and then as they should be.
+fn is_read_at_last(alloc: Global, traced: &Traced, user: User) -> Result<bool, NoMemory> {
+    let received = traced.erased(user)?.transcript(user)?;
+    let seen = at_last(take_all_memory(alloc)?, || traced.transcript(user).ok());
+    let alone = at_last(take_all_memory(alloc)?, || traced.erased(user).ok());
+    Ok(match (seen, alone) {
+        (Some((seen, true)), Some((alone, true))) => {
+            is_same_received(&seen, &received)
+                && is_same_received(&alone.transcript(user)?, &received)
+        }
+        _ => false,
+    })
+}
+
+#[test]
+fn a_trace_is_read_at_last(rt: HostRuntime) -> Result<(), NoMemory> {
+    let alloc = rt.alloc();
+    let traced = ran(&rt, alloc, "spawn ann 1 10\nspawn bob 1 10\n")?;
+    assert!(rt; is_read_at_last(alloc, &traced, User(1))?);
+    assert!(rt; is_read_at_last(alloc, &traced, User(2))?);
+    Ok(())
+}
+
+/// The first step, for which a trace has no room.
+#[test]
+fn a_step_without_room_comes_back(rt: HostRuntime) -> Result<(), NoMemory> {
+    let alloc = rt.alloc();
+    let (mut traced, untroubled) = (booted(&rt, alloc)?, booted(&rt, alloc)?);
+    let pieces = take_all_memory(alloc)?;
+    assert!(rt; take_at_last(pieces, &mut traced, &untroubled, RECEIVE, None) == Some(true));
+    Ok(())
+}
+
+fn is_byte_refused(alloc: Global) -> bool {
+    let byte: Result<Vec<u8>, AllocError> = Vec::with_capacity(alloc, 1);
+    byte.is_err()
+}
+
+/// Three interrupts: of a thread whose message waits, of one that is answered, and of one that is not there.
+const INTERRUPTS: &str = "interrupt ann.1.1\ninterrupt ann.1.1\ninterrupt bob.1.1\n";
+
+#[test]
+fn three_interrupts_in_reserved_room(rt: HostRuntime) -> Result<(), NoMemory> {
+    let alloc = rt.alloc();
+    let mut traced = ran(&rt, alloc, "spawn ann 1 10\nopen ann.1.1 /ann r 000\n")?;
+    let steps = steps(&rt, alloc, INTERRUPTS)?;
+    traced.reserve(3)?;
+    let pieces = take_all_memory(alloc)?;
+    let stored = is_byte_refused(alloc) && store_all(&mut traced, &steps).is_ok();
+    drop(pieces);
+    assert!(rt; stored && traced.entries().len() == 5);
     Ok(())
 }

@@ -3,7 +3,7 @@
 //! - `acts.rt`: what each thread of a test does, line by line, and by what the threads wait for each other
 //! - `runs.rt`: a run of a server with a thread for each text, and what came of it
 //! - `served.rt`, `stopped.rt`, `held.rt`, `memory.rt`: calls that are served; servers that are stopped; what becomes of
-//!   what a worker holds; a run of which each request for memory may be refused
+//!   what a worker holds; want of memory
 
 mod acts;
 mod held;

@@ -45,12 +45,13 @@ fn message(bytes: MessageBytes) -> Work {
     Work::Message(Parsed::read(bytes))
 }
 
-/// The message that the worker holds, read from a copy of its bytes.
-fn held(world: &World) -> Result<Option<Work>, NoMemory> {
-    match world.held(RAM_WORKER) {
-        Some(WorkRef::Message(bytes)) => Ok(Some(message(bytes.clone()?))),
-        Some(WorkRef::Pulse) | None => Ok(None),
-    }
+/// What a worker holds, a message read from a copy of its bytes.
+pub(crate) fn held(world: &World, worker: Worker) -> Result<Option<Work>, NoMemory> {
+    Ok(match world.held(worker) {
+        Some(WorkRef::Message(bytes)) => Some(message(bytes.clone()?)),
+        Some(WorkRef::Pulse) => Some(Work::Pulse),
+        None => None,
+    })
 }
 
 /// Whether the work is another than what is held.
@@ -77,8 +78,8 @@ fn perform_what_is_held(
 ) -> Result<(), NoMemory> {
     let ann = first_thread(User(1));
     assert!(rt; traced.world().blocked(ann));
-    let Some(held) = held(traced.world())? else {
-        panic!(rt; "no message is held");
+    let Some(held) = held(traced.world(), RAM_WORKER)? else {
+        panic!(rt; "nothing is held");
     };
     assert!(rt;
         is_stale(traced, &message(MessageBytes::inline(alloc, b"")))
@@ -107,8 +108,8 @@ const LEFT: &str = "\
 #[test]
 fn performs_what_an_ended_process_left(rt: HostRuntime) -> Result<(), NoMemory> {
     let mut traced = ran(&rt, rt.alloc(), LEFT)?;
-    let Some(held) = held(traced.world())? else {
-        panic!(rt; "no message is held");
+    let Some(held) = held(traced.world(), RAM_WORKER)? else {
+        panic!(rt; "nothing is held");
     };
     assert!(rt; is_performed(&mut traced, &held));
     assert!(rt; !traced.world().answered(first_thread(User(1))));
@@ -129,7 +130,7 @@ fn call_alone(rt: &impl Abort, alloc: Global, world: &mut World) -> Result<(), N
 }
 
 /// The receive of the worker.
-const RECEIVE: Step = Step::Receive {
+pub(crate) const RECEIVE: Step = Step::Receive {
     worker: RAM_WORKER,
     manager: Manager::Ram,
 };

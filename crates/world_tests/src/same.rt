@@ -10,8 +10,13 @@ pub(crate) fn first_thread(user: User) -> Thread {
     Thread { proc, tid: 1 }
 }
 
-/// Whether the stored steps with their outcomes, what each worker holds, which users' first threads are answered and
-/// blocked, how many items wait in each line, and each user's transcript are the same.
+/// Whether as many steps are stored, and what each worker holds, which threads are answered and blocked, and how many items
+/// wait in each line are the same. To look wants no memory.
+pub(crate) fn is_same_so_far(one: &Traced, other: &Traced) -> bool {
+    one.entries().len() == other.entries().len() && is_same_world(one.world(), other.world())
+}
+
+/// Whether that, the stored steps with their outcomes, and each user's transcript are the same.
 pub(crate) fn is_same(one: &Traced, other: &Traced) -> Result<bool, NoMemory> {
     Ok(
         has_same_entries(one.entries(), other.entries())
@@ -37,8 +42,7 @@ fn is_same_entry(one: &Entry, other: &Entry) -> bool {
 fn is_same_world(one: &World, other: &World) -> bool {
     has_same_worker(one, other, Worker(1))
         && has_same_worker(one, other, Worker(2))
-        && has_same_thread(one, other, User(1))
-        && has_same_thread(one, other, User(2))
+        && (0..128).all(|number| has_same_thread(one, other, thread(number)))
         && has_same_lines(one, other)
 }
 
@@ -67,9 +71,18 @@ fn is_same_held(one: Option<WorkRef<'_>>, other: Option<WorkRef<'_>>) -> bool {
     }
 }
 
-/// Whether the first thread of a user's first process is answered and blocked in both or in neither.
-fn has_same_thread(one: &World, other: &World, user: User) -> bool {
-    let thread = first_thread(user);
+/// Of two users the threads that may be, by number.
+fn thread(number: u8) -> Thread {
+    let proc = Proc {
+        user: User(1 + number / 64),
+        num: 1 + number / 4 % 16,
+    };
+    let tid = 1 + number % 4;
+    Thread { proc, tid }
+}
+
+/// Whether a thread is answered and blocked in both or in neither.
+fn has_same_thread(one: &World, other: &World, thread: Thread) -> bool {
     one.answered(thread) == other.answered(thread) && one.blocked(thread) == other.blocked(thread)
 }
 
@@ -80,7 +93,7 @@ fn has_same_transcript(one: &Traced, other: &Traced, user: User) -> Result<bool,
     Ok(is_same_received(&received, &other))
 }
 
-fn is_same_received(one: &[Seen], other: &[Seen]) -> bool {
+pub(crate) fn is_same_received(one: &[Seen], other: &[Seen]) -> bool {
     for (seen, other) in one.iter().zip(other.iter()) {
         if seen.actor != other.actor || seen.outcome != other.outcome {
             return false;

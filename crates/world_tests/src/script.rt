@@ -9,11 +9,11 @@ use std::process::Abort;
 /// Two users, ann and bob, and two workers.
 const USERS: &str = "user ann\nuser bob\nworkers 2\n";
 
-/// The users' lines and these, read.
+/// The users' lines and these, without their marks, read.
 fn read(rt: &impl Abort, alloc: Global, lines: &str) -> Result<(Config, Vec<Command>), NoMemory> {
     let mut text = Vec::new(alloc);
     text.extend_from_slice(USERS.as_bytes())?;
-    text.extend_from_slice(lines.as_bytes())?;
+    text.extend_from_slice(lines.replace(alloc, ['!', '?'], "")?.as_bytes())?;
     match parse(alloc, &text)? {
         Script::Good(config, commands) => Ok((config, commands)),
         Script::Bad(line) => panic!(rt; "line {line} is bad"),

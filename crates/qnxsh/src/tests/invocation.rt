@@ -8,42 +8,44 @@ use std::io;
 use std::io::{ErrorKind, Write};
 use std::test::Fail;
 
-/// Whether the shell, on these words or the error for which they could not be had, ends the script with status 0 and
-/// its text, or with another status, no text and this line on the errors.
-fn ends_with(alloc: Global, words: io::Result<Vec<&str>>, status: u8, told: &[u8]) -> bool {
-    let mut script = Watched::new(SCRIPT);
-    let mut output = kept(alloc);
-    let mut errors = kept(alloc);
-    let given = invoke(alloc, words, &mut script, &mut output, &mut errors);
-    let shown = if status == 0 { SHOWN } else { b"" };
-    given == status
-        && output.into_inner().as_slice() == shown
-        && errors.into_inner().as_slice() == told
-}
+/// The status and the line on the errors of an end.
+const DONE: (u8, &[u8]) = (0, b"");
 
-/// Whether the shell ends the script so with this limit.
-fn ends_within(alloc: Global, limit: &str, status: u8, told: &[u8]) -> Result<bool, AllocError> {
-    let words = vec![in alloc; "qnxsh", "--limit", limit]?;
-    Ok(ends_with(alloc, Ok(words), status, told))
-}
+const INPUT: (u8, &[u8]) = (1, b"qnxsh: input\n");
+
+const WORDS: (u8, &[u8]) = (2, b"qnxsh: words\n");
+
+const MEMORY: (u8, &[u8]) = (4, b"qnxsh: memory\n");
+
+/// Words or the error for which they could not be had, a script, its text, and its end.
+const ENDS: &[(Result<&[&str], ErrorKind>, &[u8], &[u8], (u8, &[u8]))] = &[
+    (Ok(&["qnxsh", "--limit", "133"]), SCRIPT, SHOWN, DONE),
+    (Ok(&["qnxsh", "--limit", "132"]), SCRIPT, b"", INPUT),
+    (Ok(&["qnxsh", "--limit", "6"]), b"user a", b"", DONE),
+    (Ok(&["qnxsh", "--limit", "6"]), b"user ab", b"", INPUT),
+    (Ok(&["qnxsh", "--limit", "0"]), SCRIPT, b"", WORDS),
+    (Ok(&["qnxsh", "--limit", "16777217"]), SCRIPT, b"", WORDS),
+    (Ok(&["qnxsh", "x"]), SCRIPT, b"", WORDS),
+    (Err(ErrorKind::InvalidData), SCRIPT, b"", WORDS),
+    (Err(ErrorKind::OutOfMemory), SCRIPT, b"", MEMORY),
+];
 
 #[test]
-fn ends_by_the_limit(rt: HostRuntime) -> Result<(), Fail> {
-    assert!(rt; ends_within(rt.alloc(), "133", 0, b"")?);
-    assert!(rt; ends_within(rt.alloc(), "132", 1, b"qnxsh: input\n")?);
-    assert!(rt; ends_within(rt.alloc(), "0", 2, b"qnxsh: words\n")?);
+fn ends_by_words_and_script(rt: HostRuntime) -> Result<(), Fail> {
+    for (given, script, shown, (status, told)) in ENDS {
+        let words = match given {
+            Ok(words) => Ok(Vec::from_slice(rt.alloc(), words)?),
+            Err(error) => Err(io::Error::from(*error)),
+        };
+        let mut script = Watched::new(*script);
+        let mut output = kept(rt.alloc());
+        let mut errors = kept(rt.alloc());
+        let ended = invoke(rt.alloc(), words, &mut script, &mut output, &mut errors);
+        assert!(rt; ended == *status, "{given:?}");
+        assert!(rt; output.into_inner().as_slice() == *shown, "{given:?}");
+        assert!(rt; errors.into_inner().as_slice() == *told, "{given:?}");
+    }
     Ok(())
-}
-
-/// Whether the shell ends so where the words could not be had.
-fn ends_at(alloc: Global, error: ErrorKind, status: u8, told: &[u8]) -> bool {
-    ends_with(alloc, Err(io::Error::from(error)), status, told)
-}
-
-#[test]
-fn ends_where_words_are_not_had(rt: HostRuntime) {
-    assert!(rt; ends_at(rt.alloc(), ErrorKind::InvalidData, 2, b"qnxsh: words\n"));
-    assert!(rt; ends_at(rt.alloc(), ErrorKind::OutOfMemory, 4, b"qnxsh: memory\n"));
 }
 
 /// Whether the shell ends with status 1, and tells so, where the script's text goes to this output.

@@ -1,6 +1,7 @@
 //! Memory that is refused, one request of it after another.
 
 use crate::lower_tests::made::{THINGS, Thing, is_made};
+use crate::memory::at_last;
 use all_memory::take_all_memory;
 use qx_types::NoMemory;
 use qx_wire::{BorrowedBytes, Message, encode, in_ranges};
@@ -15,22 +16,10 @@ fn all_is_made_with_memory(rt: HostRuntime) -> Result<(), Fail> {
     Ok(())
 }
 
-/// More than there are pieces of memory.
-const MORE: u32 = 1 << 20;
-
-/// Makes a thing without memory, and then with one piece of it more at each time, the smallest first. Whether it is refused
-/// at first, and once it is made it is as it should be.
+/// Whether a thing is refused at first, with all memory taken, and is as it should be once it is made.
 fn is_made_at_last(alloc: Global, thing: Thing) -> Result<bool, AllocError> {
-    let mut pieces = take_all_memory(alloc)?;
-    let mut made = is_made(alloc, thing);
-    let is_refused = made.is_err();
-    for _ in 0..MORE {
-        if made.is_ok() || pieces.pop().is_none() {
-            break;
-        }
-        made = is_made(alloc, thing);
-    }
-    Ok(is_refused && made == Ok(true))
+    let made = at_last(take_all_memory(alloc)?, || is_made(alloc, thing).ok());
+    Ok(made == Some((true, true)))
 }
 
 #[test]

@@ -24,11 +24,11 @@ const SPELLINGS: &[(&str, &str)] = &[
     ),
     (
         "00010500060000000300612f6263",
-        "Rename { from: Rest { bytes: [97, 47, 98] }, to: Rest { bytes: [99] } }",
+        "Rename { rests: Rests { bytes: [3, 0, 97, 47, 98, 99] } }",
     ),
     (
         "00010500020000000000",
-        "Rename { from: Rest { bytes: [] }, to: Rest { bytes: [] } }",
+        "Rename { rests: Rests { bytes: [0, 0] } }",
     ),
     ("010100000400000003000000", "Read { count: 3 }"),
     (
@@ -108,9 +108,6 @@ const SPELLINGS: &[(&str, &str)] = &[
     ("0001020002000000782f", "Malformed"),
     ("00010200020000002e2e", "Malformed"),
     ("0701000003000000612f62", "Malformed"),
-    ("", "Malformed"),
-    ("010203", "Malformed"),
-    ("030100000100000000", "Malformed"),
     ("e703000000000000", "Unknown"),
     ("0a01030000000000", "Unknown"),
     ("0001060000000000", "Unknown"),
@@ -126,9 +123,9 @@ const LENGTHS: &[(u16, u16, bool)] = &[
 ];
 
 /// The bytes of hexadecimal digits.
-fn from_hex(alloc: Global, digits: &str) -> Result<MessageBytes, Fail> {
+fn from_hex(alloc: Global, digits: &str) -> Result<Vec<u8>, Fail> {
     match hex::decode(alloc, digits) {
-        Ok(bytes) => Ok(MessageBytes::from_vec(bytes)),
+        Ok(bytes) => Ok(bytes),
         Err(FromHexError::OutOfMemory) => Err(Fail::from(AllocError)),
         Err(_) => Err(Fail::new("no hexadecimal digits")),
     }
@@ -154,13 +151,12 @@ fn renaming(alloc: Global, from: u16, to: u16) -> Result<MessageBytes, AllocErro
     Ok(MessageBytes::from_vec(bytes))
 }
 
-/// Whether the bytes mean what is printed so.
-fn is_meant(alloc: Global, parsed: &Parsed, expected: &str) -> Result<bool, AllocError> {
-    let printed = match parsed.meaning() {
-        Meaning::Known(message) => format!(in alloc; "{message:?}")?,
-        meaning => format!(in alloc; "{meaning:?}")?,
-    };
-    Ok(printed.as_str() == expected)
+/// What bytes mean, in print.
+fn printed(alloc: Global, parsed: &Parsed) -> Result<String, AllocError> {
+    match parsed.meaning() {
+        Meaning::Known(message) => format!(in alloc; "{message:?}"),
+        meaning => format!(in alloc; "{meaning:?}"),
+    }
 }
 
 /// Whether the message that they mean, if they mean one, is encoded to the same bytes.
@@ -174,9 +170,59 @@ fn is_encoded_again(alloc: Global, parsed: &Parsed) -> Result<bool, NoMemory> {
 #[test]
 fn messages_are_spelled_so(rt: HostRuntime) -> Result<(), Fail> {
     for (digits, meaning) in SPELLINGS {
-        let parsed = Parsed::read(from_hex(rt.alloc(), digits)?);
-        assert!(rt; is_meant(rt.alloc(), &parsed, meaning)?, "{digits}");
+        let parsed = Parsed::read(MessageBytes::from_vec(from_hex(rt.alloc(), digits)?));
+        let printed = printed(rt.alloc(), &parsed)?;
+        assert!(rt; printed.as_str() == *meaning, "{digits}");
         assert!(rt; is_encoded_again(rt.alloc(), &parsed)?, "{digits}");
+    }
+    Ok(())
+}
+
+/// The first word of what a spelling means once its body is longer, so many bytes, with zeros at its end.
+fn drawn_out(meaning: &str, len: usize) -> &'static str {
+    if meaning.starts_with("Write") && len <= 4096 {
+        "Write"
+    } else if meaning == "Unknown" && len <= 4160 {
+        "Unknown"
+    } else {
+        "Malformed"
+    }
+}
+
+/// Gives a message a body of so many bytes, with zeros behind those that it has.
+fn draw_out(bytes: &mut Vec<u8>, len: usize) -> Result<(), AllocError> {
+    bytes.resize(len.saturating_add(8), 0)?;
+    let [low, high, ..] = len.to_le_bytes();
+    if let [_, _, _, _, first, second, ..] = bytes.as_mut_slice() {
+        *first = low;
+        *second = high;
+    }
+    Ok(())
+}
+
+/// Whether this is the first word of what bytes mean, and a message that they mean is encoded to them.
+fn mean(alloc: Global, bytes: &[u8], word: &str) -> Result<bool, NoMemory> {
+    let parsed = Parsed::read(MessageBytes::from_slice(alloc, bytes)?);
+    let printed = printed(alloc, &parsed)?;
+    Ok(printed.as_str().starts_with(word) && is_encoded_again(alloc, &parsed)?)
+}
+
+#[test]
+fn other_lengths_are_malformed(rt: HostRuntime) -> Result<(), Fail> {
+    let alloc = rt.alloc();
+    for (digits, meaning) in SPELLINGS {
+        let mut bytes = from_hex(alloc, digits)?;
+        for end in 0..bytes.len() {
+            let front = bytes.get(..end).unwrap_or(b"");
+            assert!(rt; mean(alloc, front, "Malformed")?, "{digits} {end}");
+        }
+        bytes.push(0)?;
+        assert!(rt; mean(alloc, &bytes, "Malformed")?, "{digits}00");
+        for len in [bytes.len().saturating_sub(8), 4096, 4097, 4160, 4161] {
+            draw_out(&mut bytes, len)?;
+            let word = drawn_out(meaning, len);
+            assert!(rt; mean(alloc, &bytes, word)?, "{digits} {len}");
+        }
     }
     Ok(())
 }

@@ -1,8 +1,22 @@
-//! A run of which each request for memory may be refused, by hand: `rt try --test --fail-alloc N -- each_request`.
+//! A server with little memory: one whose worker and client are refused it, and a run of which each request for it may be
+//! refused, by hand: `rt try --test --fail-alloc N -- each_request_refused`.
 
-use crate::pool::runs::run;
-use qx_pool::CallEnd;
-use qx_types::NoMemory;
+ghost use Rattle.std.specs.Prelude.{◌≡◌, ◌+◌};
+
+use crate::memory::at_last;
+use crate::pool::acts::Signals;
+use crate::pool::runs::{run, thread};
+use crate::same::is_same;
+use crate::script::{self, config, ran, steps};
+use all_memory::take_all_memory;
+use qx_pool::{CallEnd, Client, Seat, Server, finish, worker_loop};
+use qx_types::{Bytes, Config, NoMemory, Request, Step, Worker};
+use std::alloc::{AllocError, Global};
+use std::marker::Brand;
+use std::process::Abort;
+use std::sync::Wait;
+use std::sync::atomic::AtomicU64;
+use std::sync::ledger::{Blank, Ledger};
 
 /// A file, its bytes, a reply of more than 40 of them, and a directory.
 const ANN: &str = "\
@@ -37,4 +51,104 @@ fn each_request_refused(rt: HostRuntime) {
         assert!(rt; ran.has_ended(2, &[CallEnd::Stopped]));
         assert!(rt; ran.has_ended(3, &[CallEnd::Stopped]));
     }
+}
+
+/// Three threads and calls of two of them, and the worker's steps that do them.
+const CALLS: &str = "spawn ann 3 10\nopen ann.1.1 /ann/f rwc 600\nopen ann.1.2 /ann/g rwc 600\n";
+
+const SERVED: &str = "receive 1 ram\nperform 1 6\nreceive 1 ram\nperform 1 6\n";
+
+/// Takes a step of a client at last. Whether it was refused at first.
+fn is_taken_at_last<L: Ledger>(
+    rt: &impl Wait,
+    alloc: Global,
+    server: &Server<L>,
+    client: &mut Client<L>,
+    step: Step,
+) -> Result<bool, AllocError> {
+    let mut next = Some(step);
+    let taken = at_last(take_all_memory(alloc)?, || {
+        let step = next.take()?;
+        if !step.is_client() {
+            return None;
+        }
+        match client.step(rt, server, step) {
+            Ok(_) => Some(()),
+            Err(unstored) => {
+                next = Some(unstored.step);
+                None
+            }
+        }
+    });
+    Ok(taken == Some(((), true)))
+}
+
+/// A worker's loops at its seat, until both calls are done. Whether one of them ended with the first call held.
+fn is_held_and_done<L: Ledger>(
+    rt: &impl Wait,
+    alloc: Global,
+    server: &Server<L>,
+    seats: &mut Vec<Seat<L>>,
+) -> Result<bool, AllocError> {
+    let signals = Signals {
+        raised: AtomicU64::new(0),
+        held: None,
+    };
+    let mut was_held = false;
+    let done = at_last(take_all_memory(alloc)?, || {
+        let seat = worker_loop(rt, server, seats.pop()?, Worker(1), &signals, &signals);
+        let count = seat.notes().len();
+        was_held = was_held || count == 1;
+        seats.push(seat).ok()?;
+        (count == 4).then_some(())
+    });
+    Ok(was_held && done == Some(((), true)))
+}
+
+/// Whether a call of the client's own thread ends without memory.
+fn wants_memory<L: Ledger>(
+    rt: &impl Wait,
+    alloc: Global,
+    server: &Server<L>,
+    client: &mut Client<L>,
+) -> Result<bool, AllocError> {
+    let path = Bytes::from_slice(alloc, b"/ann/f")?;
+    let pieces = take_all_memory(alloc)?;
+    let end = client.call(rt, server, Request::StatPath { path });
+    drop(pieces);
+    Ok(end == CallEnd::NoMemory)
+}
+
+/// Calls are taken at last, the server is stopped, what was called is done, and the trace is as without trouble.
+fn serve_at_last<L: Ledger, R: Wait + Abort>(
+    rt: &R,
+    alloc: Global,
+    blank: Blank,
+    config: Config,
+) -> Result<(), NoMemory>
+    requires name { blank.name ≡ L.name }
+    requires parts { blank.parts ≡ L.parts }
+    requires seats { blank.parts ≡ config.workers + 1 }
+{
+    let (server, mut seats) = Server::<L>::new(alloc, blank, config, 1)?;
+    let mut client = Client::new(seats.pop().expect(rt, "a seat"), thread(1, 3));
+    for step in steps(rt, alloc, CALLS)? {
+        assert!(rt; is_taken_at_last(rt, alloc, &server, &mut client, step)?);
+    }
+    assert!(rt; wants_memory(rt, alloc, &server, &mut client)?);
+    server.stop(rt);
+    assert!(rt; is_held_and_done(rt, alloc, &server, &mut seats)?);
+    seats.push(client.into_seat())?;
+    let traced = finish(server, seats).ok().expect(rt, "a whole trace");
+    let mut untroubled = ran(rt, alloc, CALLS)?;
+    script::run(rt, alloc, &mut untroubled, SERVED)?;
+    assert!(rt; is_same(&traced, &untroubled)?);
+    Ok(())
+}
+
+#[test]
+fn a_loop_goes_on_with_what_is_held(rt: HostRuntime) -> Result<(), NoMemory> {
+    let config = config(&rt, rt.alloc())?;
+    let blank = Blank::new(u64::from(config.workers()) + 1);
+    serve_at_last::<Brand, HostRuntime>(&rt, rt.alloc(), blank, config)
 }
