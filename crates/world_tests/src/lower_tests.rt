@@ -3,7 +3,7 @@
 //! and a manager that is not the machine's.
 //!
 //! - `made.rt`, `memory.rt`: things that take memory; each of their requests for it refused in turn
-//! - `files.rt`: the blocks of a file's bytes, with memory and without
+//! - `files.rt`: the blocks of a file's bytes
 //! - `spellings.rt`: messages as bytes, with what they mean
 //! - `rooms.rt`: a thread's room for its replies
 //! - `null.rt`: the null manager through `serve`

@@ -1,7 +1,7 @@
 //! What a script does not ask a trace and a world for.
 
 use crate::same::first_thread;
-use crate::script::{booted, config, ran, run};
+use crate::script::{config, ran};
 use qx_machine::Entry;
 use qx_types::{
     Bytes, Errno, Item, Manager, MessageBytes, NoMemory, OFlags, Outcome, Prio, Request, Step,
@@ -13,26 +13,6 @@ use std::alloc::Global;
 use std::process::Abort;
 
 const RAM_WORKER: Worker = Worker(1);
-
-/// Steps of which none finds anything.
-const NOTHING_FOUND: &str = "\
-    receive 1 ram\n\
-    reply ann.1.1\n\
-    receive 1 ram\n";
-
-fn finds_nothing(entry: &Entry) -> bool {
-    matches!(&entry.outcome, Outcome::Idle | Outcome::WrongState)
-}
-
-#[test]
-fn stores_in_reserved_room(rt: HostRuntime) -> Result<(), NoMemory> {
-    let mut traced = booted(&rt, rt.alloc())?;
-    traced.reserve(3)?;
-    run(&rt, rt.alloc(), &mut traced, NOTHING_FOUND)?;
-    assert_eq!(rt; traced.entries().len(), 3);
-    assert!(rt; traced.entries().iter().all(finds_nothing));
-    Ok(())
-}
 
 /// A worker receives an open.
 const RECEIVED: &str = "\

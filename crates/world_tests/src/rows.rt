@@ -151,16 +151,23 @@ const MISTAKES: &str = "\
     receive 1 ram\nperform 1 7\n? reply ann.2.1\nreceive 1 pipe\nperform 1 8\n? reply ann.2.2\n\
     chmod ann.1.1 3 600\nread ann.1.2 3 100\nfstat ann.2.1 3\nclose ann.2.2 3\n";
 
-/// Opens of what exists, with truncation, with append, and of what is new; writes with append, in a gap, at the end, and
-/// within what was written.
+/// Opens of what exists, with truncation, with append, and of what is new; writes with append, in a gap, over three blocks before
+/// it, at the end, and within what was written; an open with truncation that finds the room of one that was closed.
 const GROWTHS: [&str; 6] = [
-    "! open ann.1.1 /ann/f r 000\nreceive 1 ram\n! perform 1 5\nreply ann.1.1",
+    "! open ann.1.1 /ann/f r 000\nreceive 1 ram\n! perform 1 5\nreply ann.1.1\n\
+     close ann.1.1 5\nreceive 1 ram\nperform 1 5\nreply ann.1.1\n\
+     ! open ann.1.1 /ann/f rwt 000\nreceive 1 ram\nperform 1 5\nreply ann.1.1",
     "! open ann.1.1 /ann/f wt 000\nreceive 1 ram\n! perform 1 5\nreply ann.1.1",
     "! open ann.1.1 /ann/g rwc 600\nreceive 1 ram\n! perform 1 5\nreply ann.1.1",
     "! open ann.1.1 /ann/f wa 000\nreceive 1 ram\n! perform 1 5\nreply ann.1.1\n\
      ! fill ann.1.1 5 512 07\nreceive 1 ram\n! perform 1 5\nreply ann.1.1",
     "seek ann.1.1 3 set 2048\nreceive 1 ram\nperform 1 5\nreply ann.1.1\n\
-     write ann.1.1 3 05\nreceive 1 ram\n! perform 1 5\nreply ann.1.1",
+     write ann.1.1 3 05\nreceive 1 ram\n! perform 1 5\nreply ann.1.1\n\
+     seek ann.1.1 3 set 500\nreceive 1 ram\nperform 1 5\nreply ann.1.1\n\
+     ! fill ann.1.1 3 1030 07\nreceive 1 ram\n! perform 1 5\nreply ann.1.1\n\
+     seek ann.1.1 3 set 0\nreceive 1 ram\nperform 1 5\nreply ann.1.1\n\
+     fill ann.1.1 3 200 08\nreceive 1 ram\nperform 1 5\nreply ann.1.1\n\
+     read ann.1.1 3 2049\nreceive 1 ram\nperform 1 5\nreply ann.1.1",
     "! fill ann.1.1 3 412 07\nreceive 1 ram\nperform 1 5\nreply ann.1.1\n\
      write ann.1.1 3 05\nreceive 1 ram\n! perform 1 5\nreply ann.1.1\n\
      seek ann.1.1 3 set 1\nreceive 1 ram\nperform 1 5\nreply ann.1.1\n\
