@@ -96,7 +96,10 @@ const LARGE: usize = 1 << 26;
 /// Takes all memory but small pieces, so that to take all that is left is quick.
 fn take_most_memory(alloc: Global) -> Result<Vec<Vec<u8>>, AllocError> {
     let mut pieces = take_all_memory(alloc)?;
-    while pieces.last().is_some_and(|piece| piece.capacity() < LARGE) {
+    for _ in 0..MORE {
+        if !pieces.last().is_some_and(|piece| piece.capacity() < LARGE) {
+            break;
+        }
         pieces.pop();
     }
     Ok(pieces)
