@@ -152,9 +152,11 @@ const MISTAKES: &str = "\
     chmod ann.1.1 3 600\nread ann.1.2 3 100\nfstat ann.2.1 3\nclose ann.2.2 3\n";
 
 /// Opens of what exists, with truncation, with append, and of what is new; writes with append, in a gap, over three blocks before
-/// it, at the end, and within what was written; an open with truncation that finds the room of one that was closed.
+/// it, at the end, and within what was written; an open with truncation that finds the room of those that were closed.
 const GROWTHS: [&str; 6] = [
     "! open ann.1.1 /ann/f r 000\nreceive 1 ram\n! perform 1 5\nreply ann.1.1\n\
+     ! open ann.1.1 /ann/f r 000\nreceive 1 ram\n! perform 1 5\nreply ann.1.1\n\
+     close ann.1.1 6\nreceive 1 ram\nperform 1 5\nreply ann.1.1\n\
      close ann.1.1 5\nreceive 1 ram\nperform 1 5\nreply ann.1.1\n\
      ! open ann.1.1 /ann/f rwt 000\nreceive 1 ram\nperform 1 5\nreply ann.1.1",
     "! open ann.1.1 /ann/f wt 000\nreceive 1 ram\n! perform 1 5\nreply ann.1.1",
