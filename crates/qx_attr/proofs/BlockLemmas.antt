@@ -136,14 +136,6 @@ module _ (old new : Slab Ocb) (keys : List (Option ℕ)) (n key : ℕ) (value : 
       rows_by_test (nat_lt n (length keys)) ∙
       ap (λ count. if nat_lt n count then slice_set (rows_of old keys) n (Some value) else rows_of old keys ++ Some value ∷ []) (sym (length-rows (value_at old) keys))
 
--- where there is no block, there is no key
-pub nothing-held : (values : Slab Ocb) (keys : List (Option ℕ)) (n : ℕ) → IsKeyed values keys → row_at (rows_of values keys) n ≡ None → row_at keys n ≡ None
-nothing-held values keys n keyed none = by_place (row_at keys n) refl
-  where
-    by_place : (place : Option ℕ) → row_at keys n ≡ place → row_at keys n ≡ None
-    by_place None e = e
-    by_place (Some key) e = absurd (no_value (get values key) (ap (value_at values) (sym e) ∙ (sym (row-of values keys n) ∙ none)) (keyed.there n key e))
-
 -- no block is there to be changed
 pub nothing-there : (values : Slab Ocb) (keys : List (Option ℕ)) (n : ℕ) → row_at keys n ≡ None → row_at (rows_of values keys) n ≡ None
 nothing-there values keys n none = row-of values keys n ∙ ap (value_at values) none

@@ -36,10 +36,6 @@ filter_swap p now q same (n ∷ ns) =
 
 -- ---- numbers that were made
 
-pub none_made : (A : Type 0) → AreMadeOnce {A = A} (None ∷ []) []
-none_made A zero = refl
-none_made A (suc n) = refl
-
 -- a number that is not there goes from nowhere
 stays : (n : ℕ) (made : List ℕ) → filter (λ m. m == n) made ≡ [] → filter (is_other n) made ≡ made
 stays n [] none = refl

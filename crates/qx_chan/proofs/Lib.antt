@@ -31,7 +31,6 @@ pub mod RowReads
 -- a message goes out
 mod SendLemmas
 -- what is told at once
-mod ToldLemmas
 -- what a received message that was done comes to
 mod OutcomeLemmas
 -- and once its thread is answered and due events have given their pulses

@@ -1,24 +1,19 @@
 -- A received message that was done is replied to, is left without a reply, or is refused: rows, lines and nodes stand together each time, but
 -- that answers are on their way, and once those are given all is as in the machine.
-use Rattle.std.proofs.Common.{◌≡◌, subst, inl, inr, ℕ, ◌∷◌, ◌++◌, [], true, false, List, Option, Some, None, Result, Ok, Err, map, refl, sym, ◌∙◌, ap, ap₂}
+use Rattle.std.proofs.Common.{◌≡◌, subst, ℕ, ◌∷◌, ◌++◌, [], true, false, List, Option, Some, None, Result, Ok, Err, map, refl, sym, ◌∙◌, ap, ap₂}
 use Rattle.std.proofs.lemmas.Bool.{eq-eqb}
 use Rattle.std.specs.Option.{option_to_list}
 use Rattle.std.specs.Prelude.{if◌then◌else◌, is_some, option_map, take}
 use Rattle.std.proofs.lemmas.List.{append-nil}
-use Rattle.std.proofs.lemmas.Result.{IfOk-at_ok}
 use Rattle.qx_types.specs.Managers.{manager_number}
 use Rattle.qx_errno.specs.declared.Errno.{Errno}
-use Rattle.qx_types.specs.declared.names.Coid.{Coid}
 use Rattle.qx_types.specs.declared.names.Manager.{Manager}
 use Rattle.qx_types.specs.declared.names.Thread.{Thread}
 use Rattle.qx_types.specs.declared.outcome.Answer.{Answer}
 use Rattle.qx_types.specs.declared.outcome.Answer.TheVariants as answer
 use Rattle.qx_wire.specs.Reading.{meaning}
 use Rattle.qx_paths.specs.Prefixes.{MountPoint}
-use Rattle.qx_machine.specs.declared.rows.Context.{Context}
 use Rattle.qx_machine.specs.declared.rows.Effect.{Effect}
-use Rattle.qx_machine.specs.declared.rows.Effect.TheVariants.{Keeps}
-use Rattle.qx_machine.specs.declared.rows.Over.TheVariants.{Existing}
 use Rattle.qx_isolation.specs.declared.rows.OwnItem.TheVariants as item
 use Rattle.qx_isolation.specs.declared.rows.Queued as queued
 use Rattle.qx_isolation.specs.declared.rows.ServerName.{ServerName}
@@ -29,24 +24,22 @@ use Rattle.qx_machine.specs.Events.{Events}
 use Rattle.qx_machine.specs.Functions.{Deed, Reply}
 use Rattle.qx_isolation.specs.Lines.{line_at, with_line}
 use Rattle.qx_machine.specs.Machine.{line_without, lines_after}
-use Rattle.qx_machine.specs.Parts.{Change, Part, disconnect, disconnects, thread_at, thread_of, with_process}
+use Rattle.qx_machine.specs.Parts.{Change, Part, disconnect, disconnects, thread_of, with_process}
 use Rattle.qx_machine.specs.Resources.{Resources}
-use Rattle.qx_machine.specs.Performing.{Served, after_answer, after_message, after_serving, answered_changes, called_by, called_in, context_of, dup_of, or_kept, own_change, serve_message, served_changes, taken_in}
+use Rattle.qx_machine.specs.Performing.{Served, after_answer, after_message, after_serving, answered_changes, or_kept, own_change, serve_message, served_changes, taken_in}
 use Rattle.qx_machine.specs.Processes.{Process, served_state, served_thread, with_thread}
 use Rattle.qx_machine.specs.Settling.{is_living}
 use Rattle.qx_machine.proofs.Living.{lives-answered}
 use Rattle.qx_isolation.specs.Rows.{row_at, with_row}
-use Rattle.qx_machine.proofs.Waiters.{InDeed, deed-keeps, deed-keeps_replied, opened_by-caller}
+use Rattle.qx_machine.proofs.Waiters.{InDeed, deed-keeps, deed-keeps_replied}
 use Rattle.qx_queues.specs.Queues.{unblock_call}
 use Rattle.qx_shared.specs.Shared.{Shared, users_given, with_shared_line}
-use Rattle.qx_pipes.specs.Told.{told_alone}
 use Rattle.qx_resmgr.specs.Deeds.{IsReplied}
 use Rattle.qx_resmgr.specs.declared.functions.Done.{Done}
 use Rattle.qx_resmgr.specs.declared.functions.Done.TheVariants as done
 use Rattle.qx_resources.specs.State as state
 use Rattle.qx_resources.specs.State.{told}
 use Rattle.qx_resources.specs.declared.tables.Tables.{Tables as AllTables}
-use Rattle.qx_resources.proofs.ToldLemmas.{RepliedAlone, ToldAlone, alone-cases, told-cases}
 use Rattle.qx_process.specs.Reads.{Loses}
 use Rattle.qx_procs.specs.Calls.{LosesAt}
 use Rattle.qx_chan.specs.inner.Answers.{answered_process, answered_queues, given_lines, given_users, without_pulse}
@@ -54,7 +47,7 @@ use Rattle.qx_chan.specs.Channel.{failed}
 use Rattle.qx_chan.specs.inner.Channel.{process_replied}
 use Rattle.qx_chan.specs.inner.Kept.{Answering, StandTogether, with_lost, asked_call, is_asked_at, is_queued_at, is_waiting_for, stands_at, waits_for}
 use Rattle.qx_chan.specs.Serving.{Serves, settled}
-use Rattle.qx_chan.specs.inner.Serving.{Comes, Leaves, caller_of_call, deed_in, told_in}
+use Rattle.qx_chan.specs.inner.Serving.{Comes, Leaves, caller_of_call, deed_in}
 use Rattle.qx_chan.specs.Users.{Users, process_of_user, process_of, thread_row, with_process_of, with_thread_row}
 use Rattle.qx_chan.specs.declared.call.Call.{Call}
 use Rattle.qx_chan.proofs.AnswerLemmas.{IsAnswer, fails, replies}
@@ -63,7 +56,6 @@ use Rattle.qx_chan.proofs.LostLemmas.{lost-fields, lost-lines, lost-pulses, none
 use Rattle.qx_chan.proofs.MessageLemmas.{Received, serves-message, taken-received}
 use Rattle.qx_chan.proofs.ServeLemmas.{Answering-left, Serves-given, Waits, given_all, left-same, nothing_done, shown, waits-before}
 use Rattle.qx_chan.proofs.ProcessLemmas.{process_of-same}
-use Rattle.qx_chan.proofs.ToldLemmas.{KeepsPipes, LeavesOwn, asked-existing, asked-own, asked-pipes, told-serves}
 use Rattle.qx_chan.proofs.ServedLemmas.{Answering-answered, changed-there, lines-done, users-done, users-refused}
 use Rattle.qx_chan.proofs.ThreadLemmas.{Kept-thread, one_thread}
 
@@ -145,14 +137,6 @@ module _ (users : Users) (w : AllTables) (thread : Thread) (call : Call) (its : 
 
     abbrev meant : Result (Deed Resources) Errno
     meant = deed_in k w its.process thread call moment its.sent.bytes
-
-    -- what it is served with
-    abbrev context : Context
-    context = context_of its.process (caller_of_call thread call) call.target moment (meaning its.sent.bytes)
-
-    -- how it is told
-    abbrev told_so : Result (Deed Resources) Errno
-    told_so = told_in k w its.process thread call moment its.sent.bytes
 
     abbrev served : Part → Served
     served part = or_kept part (serve_message part thread.proc.num thread.tid moment)
@@ -298,55 +282,6 @@ module _ (users : Users) (w : AllTables) (thread : Thread) (call : Call) (its : 
   outcome_by k l v of moment bytes (Ok done.NoReply) (Err error) is did gone lost = absurd did
   outcome_by k l v of moment bytes (Err error) (Ok deed) is did gone lost = absurd did
 
-  -- a deed with this as the reply, and no answers
-  abbrev told_deed : Deed Resources → ℕ → List ℕ → Deed Resources
-  told_deed deed status bytes = record deed { reply = Some (record { status = status; bytes = bytes; effect = Keeps }); answers = [] }
-
-  -- the call was answered alone in its pipe, and is told so
-  alone_by : (k l : state.Kept) (v : AllTables) (of : k.user ≡ thread.proc.user.0) (moment : ℕ) (bytes : List ℕ) (given : Result Done Errno) (deed : Deed Resources) → meant k l v of moment ≡ Ok deed
-      → (it : ToldAlone manager (told k w) (context k l v of moment) (meaning its.sent.bytes) (meant k l v of moment)) (one : RepliedAlone (told k w) it.opened deed)
-      → Comes (is_living its.processes) k w l v bytes given (told_alone (told k w) it.opened (Ok deed)) → (IsReplied given → Gone v.shared) → (IsReplied given → HasLost bytes given) → Outcome k l v moment bytes given
-  alone_by k l v of moment bytes given deed is it one did gone lost = by_given given (subst (Comes (is_living its.processes) k w l v bytes given) one.told did) gone lost
-    where
-      existing : (coid : Coid) × (call.target.over ≡ Existing coid)
-      existing = asked-existing its.process (caller_of_call thread call) call.target moment (meaning its.sent.bytes) it.opened it.asks it.over
-
-      own : LeavesOwn (told k w) it.opened (meant k l v of moment)
-      own = asked-own (told k w) (context k l v of moment) (meaning its.sent.bytes) it.opened it.asks it.calls it.over
-
-      same : served_by k l v of moment (meant k l v of moment) ≡ served_by k l v of moment (Ok (told_deed deed one.status one.bytes))
-      same =
-          let called : called_by (thread_at (part k l v of moment) thread.proc.num thread.tid) ≡ manager =
-          ap (λ row. called_by (thread_of thread.tid row)) its.there ∙ ap called_by its.at ∙ ap called_in its.is ∙ ap (λ (c : Call). c.target.manager) its.call_is in
-          let whose = opened_by-caller its.process (caller_of_call thread call) call.target moment (dup_of (meaning its.sent.bytes)) it.opened it.over in
-          let told_same = told-serves (part k l v of moment) (caller_of_call thread call) (record { target = call.target; is_asked = call.is_asked; bytes = [] }) existing.0 (told k w) it.opened (meant k l v of moment) existing.1 called whose own in
-          sym told_same ∙ ap (served_by k l v of moment) (ap (told_alone (told k w) it.opened) is ∙ one.told)
-
-      keeps : InDeed (Waits users k.user) (told_deed deed one.status one.bytes)
-      keeps = record {
-        pipes = IfOk-at_ok (KeepsPipes (Waits users k.user) (told k w) it.opened) is (asked-pipes (told k w) (context k l v of moment) (meaning its.sent.bytes) it.opened it.asks it.calls it.over (Waits users k.user) (waits-before users k.user w.shared kept.waits))
-            one.alone (one.call, answer.Reply one.status one.bytes) [] one.answers;
-        answers = tt;
-      }
-
-      by_given : (given : Result Done Errno) → Comes (is_living its.processes) k w l v bytes given (Ok (told_deed deed one.status one.bytes)) → (IsReplied given → Gone v.shared) → (IsReplied given → HasLost bytes given) → Outcome k l v moment bytes given
-      by_given (Ok (done.Reply status effect)) did gone lost = reply_after k l v of moment (told_deed deed one.status one.bytes) did.1 same keeps status bytes effect did.0 (gone tt) (lost tt).0 (lost tt).1
-      by_given (Ok done.NoReply) did gone lost = let clash : None ≡ Some (record { status = one.status; bytes = one.bytes; effect = Keeps }) = did.0 in absurd (cc)
-      by_given (Err error) did gone lost = absurd did
-
-  -- what is told is meant, or told alone
   pub outcome : (k l : state.Kept) (v : AllTables) (of : k.user ≡ thread.proc.user.0) (moment : ℕ) (bytes : List ℕ) (given : Result Done Errno)
-      → Comes (is_living its.processes) k w l v bytes given (told_so k l v of moment) → (IsReplied given → Gone v.shared) → (IsReplied given → HasLost bytes given) → Outcome k l v moment bytes given
-  outcome k l v of moment bytes given did gone lost = elim (told-cases manager (told k w) (context k l v of moment) (meaning its.sent.bytes) (meant k l v of moment)) [
-    | inl same ↦ outcome_by k l v of moment bytes given (told_so k l v of moment) (sym same) did gone lost
-    | inr it ↦ by_meant it (meant k l v of moment) refl
-  ]
-    where
-      by_meant : (it : ToldAlone manager (told k w) (context k l v of moment) (meaning its.sent.bytes) (meant k l v of moment)) (m : Result (Deed Resources) Errno) → meant k l v of moment ≡ m → Outcome k l v moment bytes given
-      by_meant it (Err error) is = outcome_by k l v of moment bytes given (told_so k l v of moment) (is ∙ sym (it.told ∙ ap (told_alone (told k w) it.opened) is)) did gone lost
-      by_meant it (Ok deed) is =
-          let told_is : told_so k l v of moment ≡ told_alone (told k w) it.opened (Ok deed) = it.told ∙ ap (told_alone (told k w) it.opened) is in
-          elim (alone-cases (told k w) it.opened deed) [
-            | inl same ↦ outcome_by k l v of moment bytes given (told_so k l v of moment) (is ∙ sym (told_is ∙ same)) did gone lost
-            | inr one ↦ alone_by k l v of moment bytes given deed is it one (subst (Comes (is_living its.processes) k w l v bytes given) told_is did) gone lost
-          ]
+      → Comes (is_living its.processes) k w l v bytes given (meant k l v of moment) → (IsReplied given → Gone v.shared) → (IsReplied given → HasLost bytes given) → Outcome k l v moment bytes given
+  outcome k l v of moment bytes given = outcome_by k l v of moment bytes given (meant k l v of moment) refl

@@ -27,15 +27,13 @@ use Rattle.qx_resmgr.specs.Deeds.{Did, IsReplied, reply_with}
 use Rattle.qx_resmgr.specs.declared.functions.Done.{Done}
 use Rattle.qx_resources.specs.State as state
 use Rattle.qx_resources.specs.State.{HasUser, state as whole, told}
-use Rattle.qx_resources.specs.Told.{told_by}
 use Rattle.qx_resources.specs.Watching.{watched_over, watched_settled}
 use Rattle.qx_resources.specs.declared.tables.Tables.{Tables as AllTables}
 use Rattle.qx_resources.specs.declared.watching.Watched.{Watched}
-use Rattle.qx_resources.proofs.ToldLemmas.{told-meant}
 use Rattle.qx_notify.specs.Events.{with_events}
 use Rattle.qx_chan.specs.inner.Answers.{answered_process, answered_queues}
 use Rattle.qx_chan.specs.inner.Kept.{AllStandTogether, Answering, HasServerNodesOf, StandTogether}
-use Rattle.qx_chan.specs.inner.Serving.{Comes, caller_of_call, deed_in, told_in}
+use Rattle.qx_chan.specs.inner.Serving.{Comes, caller_of_call, deed_in}
 use Rattle.qx_chan.specs.Calls.{call_with}
 use Rattle.qx_chan.specs.Serving.{Serves, settled}
 use Rattle.qx_chan.specs.Users.{Users, with_process_of}
@@ -56,7 +54,7 @@ pub record IsDone (users : Users) (w : AllTables) (k : state.Kept) (thread : Thr
   pub fits : HasUser k w
   pub there : IsOpenThere k
   pub watches : watched ≡ watched_over (told k w) (meaning its.sent.bytes) (context_of its.process (caller_of_call thread call) call.target moment (meaning its.sent.bytes)).opened
-  pub did : Did whole k w l v bytes given (told_in k w its.process thread call moment its.sent.bytes)
+  pub did : Did whole k w l v bytes given (deed_in k w its.process thread call moment its.sent.bytes)
 
 -- as it was read and done
 abbrev pub is_done : {spare : Option (List ℕ)} (users : Users) (w : AllTables) → AllStandTogether users w spare → (k : state.Kept) (thread : Thread) → k.user ≡ thread.proc.user.0
@@ -64,7 +62,7 @@ abbrev pub is_done : {spare : Option (List ℕ)} (users : Users) (w : AllTables)
     → (row : ThreadRow) → Some row ≡ row_at process.threads thread.tid → (sent : Sent) → Some sent ≡ taken_in row.state → (call : Call) → call ≡ call_with row sent → (moment : ℕ)
     → (means : Meaning) → means ≡ meaning sent.bytes → (context : Context) → context ≡ context_of process (caller_of_call thread call) call.target moment means
     → IsOpenThere k → (watched : Option Watched) → watched ≡ watched_over (told k w) means context.opened
-    → (l : state.Kept) (v : AllTables) (bytes : List ℕ) (given : Result Done Errno) → Did whole k w l v bytes given (told_by context.target.manager (told k w) context means (deed_of (told k w) context means))
+    → (l : state.Kept) (v : AllTables) (bytes : List ℕ) (given : Result Done Errno) → Did whole k w l v bytes given (deed_of (told k w) context means)
     → IsDone users w k thread call moment watched l v bytes given
 is_done users w all k thread of processes user process there row at sent is call call_is moment means means_is context context_is open_there watched watches l v bytes given did = record {
   its = received users thread processes user process there row at sent is call call_is;
@@ -84,9 +82,8 @@ module _ {users : Users} {w : AllTables} {k : state.Kept} {thread : Thread} {cal
   abbrev earlier : AllTables
   earlier = triggered_in (is_living its.processes) l v watched
 
-  came : Comes (is_living its.processes) k w l earlier bytes given (told_in k w its.process thread call moment its.sent.bytes)
-  came = comes (is_living its.processes) k l w v earlier (context_of its.process (caller_of_call thread call) call.target moment (meaning its.sent.bytes)) (meaning its.sent.bytes) watched bytes given _ done.fits done.there
-      (λ deed is. told-meant call.target.manager (told k w) _ (meaning its.sent.bytes) (deed_in k w its.process thread call moment its.sent.bytes) deed is) done.watches refl done.did
+  came : Comes (is_living its.processes) k w l earlier bytes given (deed_in k w its.process thread call moment its.sent.bytes)
+  came = comes (is_living its.processes) k l w v earlier (context_of its.process (caller_of_call thread call) call.target moment (meaning its.sent.bytes)) (meaning its.sent.bytes) watched bytes given _ done.fits done.there refl done.watches refl done.did
 
   -- what is neither a pipe nor an answer that is on its way is as before
   same : {A : Type 0} (read : Shared → A) → ((c : Shared) (user : ℕ) (pipes : Pipes) (answers : List (WaitingCall × Answer)) → read (with_pipes c user pipes answers) ≡ read c) → read v.shared ≡ read w.shared

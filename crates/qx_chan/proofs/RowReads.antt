@@ -66,13 +66,6 @@ with_row-twice {A = A} xs n f g =
     both None = refl
     both (Some x) = refl
 
-pub with_row-alike : {A : Type 0} (xs : List (Option A)) (n : ℕ) (f g : A → A) → ((x : A) → f x ≡ g x) → with_row xs n f ≡ with_row xs n g
-with_row-alike {A = A} xs n f g same = ap (slice_set xs n) (each (row_at xs n))
-  where
-    each : (o : Option A) → option_map f o ≡ option_map g o
-    each None = refl
-    each (Some x) = ap Some (same x)
-
 -- a row that changes to what it was
 pub with_row-fixed : {A : Type 0} (xs : List (Option A)) (n : ℕ) (f : A → A) (x : A) → row_at xs n ≡ Some x → f x ≡ x → with_row xs n f ≡ xs
 with_row-fixed {A = A} xs n f x there same = ap (λ (o : Option A). slice_set xs n (option_map f o)) there ∙ ap (λ (y : A). slice_set xs n (Some y)) same ∙ set-row xs n x there

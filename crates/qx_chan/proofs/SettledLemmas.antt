@@ -24,7 +24,6 @@ use Rattle.qx_resources.specs.State.{HasUser, Kept, state, told}
 use Rattle.qx_resources.specs.Watching.{watched_call, watched_over, watched_settled}
 use Rattle.qx_resources.specs.declared.tables.Tables.{Tables}
 use Rattle.qx_resources.specs.declared.watching.Watched.{Watched}
-use Rattle.qx_resources.proofs.ToldLemmas.{IsMeant}
 use Rattle.qx_resources.proofs.WatchLemmas.{there-unstale, watched-cancelled, watched-same, watched-settled, watched-unchanged}
 use Rattle.qx_chan.specs.Channel.{Channel}
 use Rattle.qx_chan.specs.Serving.{PartServed, Serves, part_in}
@@ -86,14 +85,13 @@ IsOpenThere k = (number : ℕ) (block : Ocb) → row_at k.inodes.blocks number �
 
 -- a message was done
 pub comes : (lives : ℕ → Bool) (k l : Kept) (w v now : Tables) (context : Context) (means : Meaning) (watched : Option Watched) (bytes : List ℕ) (given : Result Done Errno) (r : Result (Deed Resources) Errno)
-    → HasUser k w → IsOpenThere k → ((deed : Deed Resources) → r ≡ Ok deed → IsMeant (deed_of (told k w) context means) deed) → watched ≡ watched_over (told k w) means context.opened → now ≡ triggered_in lives l v watched → Did state k w l v bytes given r → Comes lives k w l now bytes given r
+    → HasUser k w → IsOpenThere k → deed_of (told k w) context means ≡ r → watched ≡ watched_over (told k w) means context.opened → now ≡ triggered_in lives l v watched → Did state k w l v bytes given r → Comes lives k w l now bytes given r
 comes lives k l w v now context means watched bytes (Ok done) (Ok deed) fits there is watches triggers did = (
   did.0,
   subst (λ now. Leaves lives k w l now deed) (sym triggers) (leaves lives k l w v watched deed (fits-did k l w v bytes (Ok done) (Ok deed) fits did) did.1 (ap (λ (v : Tables). v.shared) did.2) (ap (λ (v : Tables). v.mounts) did.2) did.3
       (λ e. ap (λ (v : Tables). slice_set v.events.events k.user e) did.2 ∙ set-set w.events.events k.user deed.state.events e)
       (ap (λ watched. watched_settled lives watched deed.state) watches
-      ∙ subst (λ state. watched_settled lives (watched_over (told k w) means context.opened) state ≡ events_settled lives (told k w) state) (is deed refl).state
-      (watched-settled lives (told k w) context means (is deed refl).meant (there-unstale (told k w) there) (is deed refl).is))),
+      ∙ watched-settled lives (told k w) context means deed (there-unstale (told k w) there) is)),
 )
 comes lives k l w v now context means watched bytes (Err error) (Err meant) fits there is watches triggers did = (
   did.0,

@@ -55,7 +55,6 @@ given-lowest ceiling (suc prio) allowed is = omega arith
 
 -- a number that a new process is to have
 pub record Numbered (processes : List (Option Process)) (threads prio number : ℕ) : Type 0 where
-  pub some_thread : 1 ≤ threads
   pub few_threads : threads ≤ THREADS
   pub lowest_prio : 1 ≤ prio
   pub lowest : number ≡ lowest_from 1 processes
@@ -75,7 +74,6 @@ numbered limits processes threads prio number most is = elim (cases_Bool (valid 
           let made : Ok (lowest_from 1 processes) ≡ Ok number = rw (good, allowed.1, fits) at is in
           let same : lowest_from 1 processes ≡ number = cc in
           record {
-            some_thread = grind (arith, nat_tests, good);
             few_threads = grind (arith, nat_tests, good);
             lowest_prio = given-lowest limits.ceiling prio allowed.0 allowed.1;
             lowest = sym same;

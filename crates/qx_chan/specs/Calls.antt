@@ -1,11 +1,9 @@
 -- The call that a thread waits for, by its row.
 use Rattle.std.specs.Prelude.{Option, Some, None, option_map, if◌then◌else◌}
-use Rattle.qx_types.specs.declared.outcome.Answer.{Answer}
 use Rattle.qx_machine.specs.declared.rows.Sent.{Sent}
 use Rattle.qx_machine.specs.declared.rows.State.{State}
 use Rattle.qx_machine.specs.declared.rows.State.TheVariants.{Taken, Waiting}
 use Rattle.qx_machine.specs.declared.rows.ThreadRow.{ThreadRow}
-use Rattle.qx_machine.specs.Clients.{answer_in}
 use Rattle.qx_machine.specs.Performing.{taken_in}
 use Rattle.qx_process.specs.Reads.{queued_in}
 use Rattle.qx_chan.specs.declared.call.Call.{Call}
@@ -39,8 +37,3 @@ unasked_call row = sent_call unasked_in row
 abbrev pub taken_of : Option ThreadRow → Option Sent
 taken_of None = None
 taken_of (Some row) = taken_in row.state
-
--- the answer that a thread has and has not taken
-abbrev pub answer_of : Option ThreadRow → Option Answer
-answer_of None = None
-answer_of (Some row) = answer_in row.state

@@ -37,7 +37,8 @@ use Rattle.qx_procs.specs.Calls.{after_or, spawned, with_prio}
 use Rattle.qx_queues.specs.Queues.{message_of, nodes_freed, sender, unblock_of}
 use Rattle.qx_resources.specs.declared.tables.Tables.{Tables}
 use Rattle.qx_shared.specs.Shared.{nothing_shared}
-use Rattle.qx_chan.specs.Calls.{answer_of, queued_call, unasked_call}
+use Rattle.qx_machine.specs.Reads.{answer_of}
+use Rattle.qx_chan.specs.Calls.{queued_call, unasked_call}
 use Rattle.qx_chan.specs.declared.call.Call.{Call}
 use Rattle.qx_chan.specs.Nodes.{room_for, room_started, room_used, served_at}
 use Rattle.qx_chan.specs.Users.{Users, no_processes, process_of, spawn_number_in, thread_row, with_process_of, with_thread_row}

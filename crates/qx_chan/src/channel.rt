@@ -12,7 +12,8 @@ ghost use Rattle.qx_process.specs.Reads.{CanCall, CanGo, IsPriority, has_own_roo
 ghost use Rattle.qx_procs.specs.Calls.{CanAttachAt, spawn_outcome};
 ghost use Rattle.qx_queues.specs.Queues.{stands};
 ghost use Rattle.qx_shared.specs.Shared.{HasNoCall, has_thread, shared_line};
-ghost use Rattle.qx_chan.specs.Calls.{answer_of, queued_call, unasked_call};
+ghost use Rattle.qx_chan.specs.Calls.{queued_call, unasked_call};
+ghost use Rattle.qx_machine.specs.Reads.{answer_of};
 ghost use Rattle.qx_chan.specs.Channel.{IsExisting, after_asking, after_interrupt, after_pulse, after_ranking, after_receive, after_spawn, after_taking, after_withdrawing, channel_events, channel_line, boot_channel, interrupt_outcome, pulse_outcome};
 ghost use Rattle.qx_chan.specs.Nodes.{room_for};
 ghost use Rattle.qx_chan.specs.Sending.{HasMemory, after_call, call_target, kept_after, told_of};

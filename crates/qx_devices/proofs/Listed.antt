@@ -14,9 +14,6 @@ pub device_at : (device : Device) → slice_get devices (device_number device) �
 device_at Latch = refl
 device_at Mailbox = refl
 
-pub all_devices : length devices ≡ COUNT
-all_devices = refl
-
 in_order : map device_number devices ≡ range_with_len 0 COUNT
 in_order = refl
 
@@ -28,7 +25,3 @@ device_number_at number device is =
     sym (get_or_from_slice_get (map device_number devices) number (device_number device) 0 told)
     ∙ ap (λ all. get_or all number 0) in_order ∙ get_or-range_with_len 0 COUNT number 0 (slice_get_within devices number device is) in
     omega (arith, here)
-
--- under each number below the count is a device
-pub device_of : (number : ℕ) → number < COUNT → (device : Device) × (slice_get devices number ≡ Some device)
-device_of number few = (get_or devices number Latch, slice_get-get_or devices number Latch few)

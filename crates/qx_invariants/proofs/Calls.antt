@@ -1,5 +1,5 @@
 -- What a call leaves in a pipe or a device: whoever waited or came is answered once or waits on, nobody waits in vain, and no more bytes stand than may; and how long a file is once bytes were put into it.
-use Rattle.std.proofs.Common.{◌≡◌, ◌⊎◌, inl, inr, ℕ, ◌+◌, ◌≤◌, Bool, true, false, not, List, [], ◌∷◌, ◌++◌, length, take, map, refl, ap, ◌∙◌, subst, arith, length-append, length-drop, cond}
+use Rattle.std.proofs.Common.{◌≡◌, ◌⊎◌, inl, inr, ℕ, ◌+◌, ◌≤◌, Bool, true, false, not, List, [], ◌∷◌, ◌++◌, length, take, map, refl, ap, ap₂, ◌∙◌, subst, arith, length-append, length-drop, cond}
 use Rattle.std.specs.Prelude.{◌==◌, ◌||◌, Option, Some, None, min, nat_le, if◌then◌else◌}
 use Rattle.std.specs.List.{count_by}
 use Rattle.std.proofs.lemmas.Bool.{cases_lt, cond_both, leb-true}
@@ -22,6 +22,7 @@ use Rattle.qx_machine.specs.Files.{put}
 use Rattle.qx_machine.specs.Pipes.{PipeAfter, Pipe, cancel, clean, clean_read, clean_write, dismissed, if_first, nobody_answered, pipe_of, read, read_told, readers_ended, release, removed, served, settle, staying, told_or_waiting, waiting_unless, with_reader, with_writer, write, write_told, writers_ended}
 use Rattle.qx_machine.specs.Verdicts.{pipe_read, pipe_write, read_ended, read_of, sides_at, told_of, within, write_ended, write_of}
 use Rattle.qx_machine.specs.Waiting.{is_gone, is_of_process, offered as offers, wanted as wants}
+use Rattle.qx_machine.proofs.AtOnce.{IsIdle}
 use Rattle.qx_files.proofs.PutLemmas.{length-put}
 use Rattle.qx_pipe.specs.Laws.{FirstWaits, IsSettled}
 use Rattle.qx_pipe.proofs.LawLemmas as laws
@@ -283,6 +284,17 @@ module _ (p : Pipe WaitingCall) where
 
   pub release_well : (is_on_it : WaitingCall → Bool) (sides : Sides) → LeavesWell p [] (release wants offers is_gone is_on_it sides p)
   release_well is_on_it sides = record { once = release_once wants offers is_gone is_on_it sides p; settled = rests wants offers _ (laws.release_settled wants offers is_gone is_on_it sides p); rules = release_rules wants offers is_gone p is_on_it sides }
+
+  waits_none : (which : WaitingCall → Bool) (idle : Pipe WaitingCall) → IsIdle idle → count_waiting_of which idle ≡ 0
+  waits_none which idle nobody = ap₂ (λ (readers writers : List WaitingCall). count_by which readers + count_by which writers) nobody.0 nobody.1
+
+  -- where nobody waits in it, before and then, it is as if nobody came and nobody was answered
+  pub idle_well : (came : List WaitingCall) (after : PipeAfter WaitingCall) → IsIdle p → IsIdle after.pipe → LeavesWell p came after → LeavesWell p [] (nobody_answered after.pipe)
+  idle_well came after before left well = record {
+    once = λ which. let now = waits_none which after.pipe left in let were = waits_none which p before in let fewer = removed_fewer is_gone which p in omega (arith, now, were, fewer);
+    settled = well.settled;
+    rules = well.rules;
+  }
 
 -- ---- files
 

@@ -3,7 +3,7 @@ use Rattle.std.proofs.Common.{◌≡◌, inl, inr, ℕ, zero, suc, ◌+◌, ◌�
 use Rattle.std.specs.Prelude.{IfOk, ℤ, ◌&&◌, Option, Some, None, Result, Ok, Err, is_some, nat_le, nat_lt, not, option_map, position, slice_set, ◌||◌}
 use Rattle.std.specs.FinMap.{get, insert, remove}
 use Rattle.std.specs.List.{AllByRecursion, count_by}
-use Rattle.std.proofs.lemmas.List.{append-nil, append_assoc}
+use Rattle.std.proofs.lemmas.List.{append-nil, append_assoc, set-set}
 use Rattle.std.proofs.lemmas.Option.{same_Some}
 use Rattle.std.proofs.lemmas.Bool.{and_parts, cases_eq, cond_both, eq-eqb, leb-true}
 use Rattle.qx_errno.specs.declared.Errno.{Errno}
@@ -45,22 +45,23 @@ use Rattle.qx_isolation.specs.Judgements.{found, need}
 use Rattle.qx_machine.specs.Managers.{close_all, manager_deed, or_unreplied, own_kind, pipe_connect, pipe_io}
 use Rattle.qx_machine.specs.Names.{Key, Spot, is_directory, is_empty, names_in, root_key, spot, under, Names, is_below, is_same_key, moved as moved_all}
 use Rattle.qx_machine.specs.Notification.{conditions_at, event_of, notify_block}
-use Rattle.qx_machine.specs.PipeManager.{cancel_call, filled, read_pipe, released, seek_pipe, deed_of_pipe, write_pipe}
-use Rattle.qx_machine.specs.Pipes.{PipeAfter, Pipe, cancel, release}
+use Rattle.qx_machine.specs.PipeManager.{cancel_call, deed_of_call, filled, read_pipe, released, seek_pipe, deed_of_pipe, write_pipe}
+use Rattle.qx_machine.specs.Pipes.{PipeAfter, Pipe, cancel, nobody_answered, release}
 use Rattle.qx_machine.specs.RamManager.{emptied, read_file, seek_file, with_bytes, write_file, written_at}
 use Rattle.qx_machine.specs.Resources.{Resources, with_empty}
-use Rattle.qx_isolation.specs.Rows.{put_row, row_at}
+use Rattle.qx_isolation.specs.Rows.{put_row, row_at, with_row}
 use Rattle.qx_machine.specs.Waiting.{Pipes, holds, is_call, is_gone, is_over, manner_of, offered, sides_of, waiting_call, wanted}
 use Rattle.qx_isolation.proofs.Places.{row_at-set_other}
 use Rattle.qx_invariants.specs.Changes.{AreKept, LeadsTo, ResourceChange, Closes, Comes, Fills, IsDone, IsMoved, IsOwnInode, MayHappen, MayPart, Moves, Notifies, OneLess, OneMore, Opens, Parting, ToOffset, Touches, Unlinks, WithClient, WithLast, Writes, moved, with_change, touched, without_link, with_named, IsDirectoryAt, Renames}
 use Rattle.qx_invariants.specs.Waits.{is_astray, count_waiting_in}
+use Rattle.qx_machine.proofs.AtOnce.{IsIdle, RepliesIdle, call-by, read-idle, write-idle}
 use Rattle.qx_machine.proofs.Gives.{Gives, found-row, gives_by, gives_done, gives_error, gives_on, gives-value, need-true}
 use Rattle.qx_attr.proofs.CountLemmas.{within_table}
 use Rattle.qx_iofunc.proofs.PlaceLemmas.{put_at, set_at}
 use Rattle.qx_iofunc.proofs.OpenLemmas.{none_in}
-use Rattle.qx_invariants.proofs.Calls.{LeavesWell, cancel_well, no_one, put_short, read_well, release_none, release_well, write_well}
+use Rattle.qx_invariants.proofs.Calls.{LeavesWell, cancel_well, idle_well, no_one, put_short, read_well, release_none, release_well, write_well}
 use Rattle.qx_invariants.proofs.Events.{disarmed-kept, notified-kept}
-use Rattle.qx_invariants.proofs.Rows.{IsNew, content_cases, filled-kind, freed, unused_cases, with_row-some_at, inode_is_new, put_there, some-is, the-some, with_row-at, with_row-some}
+use Rattle.qx_invariants.proofs.Rows.{IsNew, content_cases, filled-alike, filled-kind, freed, unused_cases, with_row-some_at, inode_is_new, put_there, some-is, the-some, with_row-at, with_row-some}
 use Rattle.qx_names.proofs.Keys.{insert-at, nothing_behind, remove-at, remove-other}
 use Rattle.qx_invariants.proofs.Spots.{AreComponents, IsSpot, spot-gives}
 use Rattle.qx_invariants.proofs.Told.{CameWith, IsClosing, IsMadeThere, SeenWith, Told, nothing, seeing, telling, told_by}
@@ -650,30 +651,57 @@ module _ (K : Resources → Told → Type 0) (keeps : (change : ResourceChange) 
         let is_its : is_open (λ flags. true) block.inode (row_at r.inodes.blocks call.block) ≡ true = ap (λ n. is_open (λ flags. true) block.inode (row_at r.inodes.blocks n)) is ∙ (ap (is_open (λ flags. true) block.inode) there ∙ ap (λ b. b && true) (eq-eqb block.inode block.inode refl)) in
         no_one (not (is_open (λ flags. true) block.inode (row_at r.inodes.blocks call.block))) (ap not is_its)
 
+    -- nobody waits in a pipe, or in a device, before or after a call that is replied to at once: its bytes change, and the times of its inode
+    idle-keeps : (inode moment : ℕ) (pipe : Pipe WaitingCall) (came : List WaitingCall) (after : PipeAfter WaitingCall) → row_at r.pipes inode ≡ Some pipe → IsIdle pipe → IsIdle after.pipe → LeavesWell pipe came after → Q (deed_of_pipe r inode moment after).state
+    idle-keeps inode moment pipe came after here before left well = by (row_at r.inodes.attributes inode) refl
+      where
+        attributes : List (Option Attribute)
+        attributes = r.inodes.attributes
+
+        quiet : PipeAfter WaitingCall
+        quiet = nobody_answered after.pipe
+
+        kept : Q (deed_of_pipe r inode moment quiet).state
+        kept = keeps (Fills inode moment quiet []) r nothing (done-well r inode pipe [] quiet here refl (idle_well pipe came after before left well)) h
+
+        with_rows : List (Option Attribute) → Resources
+        with_rows rows = record r { inodes = record r.inodes { attributes = rows }; pipes = slice_set r.pipes inode (Some after.pipe) }
+
+        by : (row : Option Attribute) → row_at attributes inode ≡ row → Q (with_rows (with_row attributes inode (filled moment after)))
+        by None none = subst (λ rows. Q (with_rows rows)) (ap (λ row. slice_set attributes inode (option_map (filled moment quiet) row)) none ∙ sym (ap (λ row. slice_set attributes inode (option_map (filled moment after) row)) none)) kept
+        by (Some attribute) there =
+            let was : Attribute = filled moment quiet attribute in
+            let now : Attribute = filled moment after attribute in
+            subst (λ rows. Q (with_rows rows)) (set-set attributes inode (option_map (filled moment quiet) (row_at attributes inode)) (Some now) ∙ sym (with_row-some attributes inode (filled moment after) attribute there))
+            (touch-keeps K keeps (deed_of_pipe r inode moment quiet).state nothing kept inode was now (with_row-at attributes inode (filled moment quiet) ∙ ap (option_map (filled moment quiet)) there) (filled-alike moment after attribute))
+
     -- a call comes to a pipe, or to a device, and leaves it as each call may
     came-keeps : (over : Opened) (count : ℕ) (bytes : List ℕ) → context.opened ≡ Ok over → (block : Ocb) → row_at r.inodes.blocks over.number ≡ Some block → (pipe : Pipe WaitingCall) → row_at r.pipes block.inode ≡ Some pipe → (after : PipeAfter WaitingCall)
-        → LeavesWell pipe (waiting_call over count bytes ∷ []) after → Kept (deed_of_pipe r block.inode over.moment after)
-    came-keeps over count bytes was block opened pipe here after well = record {
-      came = waiting_call over count bytes ∷ [];
-      seen = [];
-      kept = keeps (Fills block.inode over.moment after (waiting_call over count bytes ∷ [])) r nothing (done-well r block.inode pipe (waiting_call over count bytes ∷ []) after here (own_over over.number block (waiting_call over count bytes) opened refl) well) h;
-      own = record { call = waiting_call over count bytes; alone = refl; here = refl; opened = over; was = was; process = refl; thread = refl; over = refl };
-      effect = refl;
-    }
+        → LeavesWell pipe (waiting_call over count bytes ∷ []) after → (IsIdle pipe → RepliesIdle after) → Kept (deed_of_call r block.inode over.moment pipe after)
+    came-keeps over count bytes was block opened pipe here after well replies =
+        let call = waiting_call over count bytes in
+        call-by Kept r block.inode over.moment pipe after (record {
+          came = call ∷ [];
+          seen = [];
+          kept = keeps (Fills block.inode over.moment after (call ∷ [])) r nothing (done-well r block.inode pipe (call ∷ []) after here (own_over over.number block call opened refl) well) h;
+          own = record { call = call; alone = refl; here = refl; opened = over; was = was; process = refl; thread = refl; over = refl };
+          effect = refl;
+        })
+        (λ nobody status given is. alone status given _ (idle-keeps block.inode over.moment pipe (call ∷ []) after here nobody (replies nobody status given is) well))
 
     read-gives : (over : Opened) (count : ℕ) → context.opened ≡ Ok over → Gives Kept (read_pipe r over count)
     read-gives over count was =
         gives_on _ (found (row_at r.inodes.blocks over.number) EBADF) _ (λ block opened.
         gives_on _ (need (reads block.flags) EBADF) _ (λ may allowed.
         gives_on _ (found (row_at r.pipes block.inode) EISDIR) _ (λ pipe here.
-        gives_done _ _ (came-keeps over count [] was block (found-row _ _ block opened) pipe (found-row _ _ pipe here) _ (read_well pipe (manner_of (writers_of r.inodes block.inode) block over.is_asked) (waiting_call over count []))))))
+        gives_done _ _ (came-keeps over count [] was block (found-row _ _ block opened) pipe (found-row _ _ pipe here) _ (read_well pipe (manner_of (writers_of r.inodes block.inode) block over.is_asked) (waiting_call over count [])) (read-idle wanted offered is_gone _ _ pipe)))))
 
     write-gives : (over : Opened) (bytes : List ℕ) → context.opened ≡ Ok over → Gives Kept (write_pipe r over bytes)
     write-gives over bytes was =
         gives_on _ (found (row_at r.inodes.blocks over.number) EBADF) _ (λ block opened.
         gives_on _ (need (writes block.flags) EBADF) _ (λ may allowed.
         gives_on _ (found (row_at r.pipes block.inode) EBADF) _ (λ pipe here.
-        gives_done _ _ (came-keeps over 0 bytes was block (found-row _ _ block opened) pipe (found-row _ _ pipe here) _ (write_well pipe (manner_of (readers_of r.inodes block.inode) block over.is_asked) (waiting_call over 0 bytes))))))
+        gives_done _ _ (came-keeps over 0 bytes was block (found-row _ _ block opened) pipe (found-row _ _ pipe here) _ (write_well pipe (manner_of (readers_of r.inodes block.inode) block over.is_asked) (waiting_call over 0 bytes)) (write-idle wanted offered is_gone _ _ pipe)))))
 
     -- ---- a close
 

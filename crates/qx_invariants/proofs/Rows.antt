@@ -17,7 +17,7 @@ use Rattle.qx_machine.specs.Defaults.{without_unused}
 use Rattle.qx_machine.specs.Inodes.{Inodes, block_number, blocks_of, close_block, inode_number, is_open, is_unused}
 use Rattle.qx_machine.specs.Names.{has_calls}
 use Rattle.qx_machine.specs.PipeManager.{filled}
-use Rattle.qx_machine.specs.Pipes.{PipeAfter, pipe_of}
+use Rattle.qx_machine.specs.Pipes.{PipeAfter, nobody_answered, pipe_of}
 use Rattle.qx_machine.specs.Resources.{Resources, resized, with_empty, without_content}
 use Rattle.qx_isolation.specs.Rows.{lowest_from, put_row, row_at, with_row}
 use Rattle.qx_machine.specs.Waiting.{Pipes, is_written, offered}
@@ -25,7 +25,7 @@ use Rattle.qx_isolation.proofs.Places.{at-map, lowest_from_free, row_at-set_othe
 use Rattle.qx_attr.specs.inner.Counts.{one}
 use Rattle.qx_attr.proofs.CountLemmas.{count-free, count-put, count-same, counts_other, counts_own}
 use Rattle.qx_iofunc.proofs.PlaceLemmas.{lowest_within, put_at, put_differ}
-use Rattle.qx_invariants.specs.Changes.{IsMoved}
+use Rattle.qx_invariants.specs.Changes.{IsMoved, touched}
 
 module _ {A : Type 0} where
   pub some-is : (row : Option A) (value : A) → row ≡ Some value → is_some row ≡ true
@@ -158,6 +158,16 @@ filled-same moment after a part written other =
 
 pub filled-kind : (moment : ℕ) (after : PipeAfter WaitingCall) (a : Attribute) → (filled moment after a).kind ≡ a.kind
 filled-kind moment after a = filled-same moment after a (λ (b : Attribute). b.kind) refl refl
+
+-- its times are all that it is told by who was answered
+pub filled-alike : (moment : ℕ) (after : PipeAfter WaitingCall) (a : Attribute) → (let now = filled moment after a in now ≡ touched now.mode now.mtime now.ctime (filled moment (nobody_answered after.pipe) a))
+filled-alike moment after a = by (not (has_calls a.kind)) (list_any (λ answer. is_written (offered answer.0) answer.1) after.answers)
+  where
+    by : (other written : Bool) → (let size = length after.pipe.bytes in let now : Attribute = if other then a else if written then resized size moment a else record a { size = size } in
+        now ≡ touched now.mode now.mtime now.ctime (if other then a else record a { size = size }))
+    by true written = refl
+    by false true = refl
+    by false false = refl
 
 -- each pipe and device changes as a process ends
 pub abandoned-at : (process : ℕ) (pipes : Pipes) (inode : ℕ) → row_at (map (option_map (with_abandoned process)) pipes) inode ≡ option_map (with_abandoned process) (row_at pipes inode)

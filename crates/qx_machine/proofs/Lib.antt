@@ -8,6 +8,8 @@ pub mod Puts
 pub mod Refusals
 -- what a judgement gives, if it gives anything
 pub mod Gives
+-- a call on a pipe in which nobody waits
+pub mod AtOnce
 -- who waits in pipes, and who is answered
 pub mod Waiters
 -- which events are due, by the conditions of their blocks alone

@@ -50,7 +50,7 @@ use Rattle.qx_machine.specs.Managers.{close_all, close_client, manager_deed, or_
 use Rattle.qx_machine.specs.Names.{Spot, is_below, is_directory, is_empty, is_same_key, names_in, spot}
 use Rattle.qx_machine.specs.Notification.{conditions_at, event_of, notify_block}
 use Rattle.qx_machine.specs.Performing.{context_of, deed_of, dup_of, opened_by, read_message, works_over}
-use Rattle.qx_machine.specs.PipeManager.{cancel_call, read_pipe, released, seek_pipe, deed_of_pipe, write_pipe}
+use Rattle.qx_machine.specs.PipeManager.{cancel_call, deed_of_call, read_pipe, released, seek_pipe, deed_of_pipe, write_pipe}
 use Rattle.qx_machine.specs.Pipes.{PipeAfter, Pipe, all_answered, and_then, cancel, clean, clean_read, clean_write, dismissed, first_answered, nobody_answered, one_answered, pipe_of, read, read_told, readers_dismissed, readers_ended, release, served, settle, staying, told_or_waiting, tried, waiting_unless, without_bytes, write, write_told, writers_dismissed, writers_ended}
 use Rattle.qx_machine.specs.Processes.{Process}
 use Rattle.qx_machine.specs.RamManager.{emptied, read_file, seek_file, write_file, written_at}
@@ -59,6 +59,7 @@ use Rattle.qx_isolation.specs.Rows.{row_at}
 use Rattle.qx_machine.specs.Servers.{is_numbered}
 use Rattle.qx_machine.specs.Verdicts.{sides_at}
 use Rattle.qx_machine.specs.Waiting.{caller_in, Pipes, holds, is_call, is_gone, offered, waiting_call, wanted}
+use Rattle.qx_machine.proofs.AtOnce.{IsIdle, RepliesIdle, call-by, read-idle, write-idle}
 use Rattle.qx_machine.proofs.Gives.{Gives, found-row, gives_by, gives_done, gives_error, gives_if, gives_more, gives_on, gives-value}
 use Rattle.qx_isolation.proofs.Places.{row_at-set_cases}
 
@@ -160,9 +161,6 @@ module _ {W : Type 0} (P : W → Type 0) where
 
   one-keeps : (who : W) (answer : Answer) (p : Pipe W) → P who → InPipe p → InAfter (one_answered who answer p)
   one-keeps who answer p own h = record { pipe = h; answers = (own, tt) }
-
-  first-keeps : (who : W) (answer : Answer) (after : PipeAfter W) → P who → InAfter after → InAfter (first_answered who answer after)
-  first-keeps who answer after own h = record { pipe = h.pipe; answers = (own, h.answers) }
 
   waiting-keeps : (manner : Manner) (who : W) (p with_it : Pipe W) → P who → InPipe p → InPipe with_it → InAfter (waiting_unless manner who p with_it)
   waiting-keeps manner who p with_it own h waits =
@@ -273,20 +271,6 @@ module _ (P : WaitingCall → Type 0) where
     pipes = set-keeps r.pipes inode (Some after.pipe) h (λ pipe put. subst (InPipe P) (same_Some _ _ put) (record { readers = stay after.pipe.readers k.pipe.readers; writers = stay after.pipe.writers k.pipe.writers }));
     answers = k.answers;
   }
-
-  read-gives : (r : Resources) (over : Opened) (count : ℕ) → InPipes r.pipes → P (waiting_call over count []) → Gives InDeed (read_pipe r over count)
-  read-gives r over count h own =
-      gives_on _ (found (row_at r.inodes.blocks over.number) EBADF) _ (λ block opened.
-      gives_on _ (need (reads block.flags) EBADF) _ (λ may allowed.
-      gives_on _ (found (row_at r.pipes block.inode) EISDIR) _ (λ pipe here.
-      gives_done _ _ (after-keeps r block.inode over.moment _ h (read-keeps P wanted offered is_gone _ _ pipe (own, refl) (h.each block.inode pipe (found-row _ _ pipe here)))))))
-
-  write-gives : (r : Resources) (over : Opened) (bytes : List ℕ) → InPipes r.pipes → P (waiting_call over 0 bytes) → Gives InDeed (write_pipe r over bytes)
-  write-gives r over bytes h own =
-      gives_on _ (found (row_at r.inodes.blocks over.number) EBADF) _ (λ block opened.
-      gives_on _ (need (writes block.flags) EBADF) _ (λ may allowed.
-      gives_on _ (found (row_at r.pipes block.inode) EBADF) _ (λ pipe here.
-      gives_done _ _ (after-keeps r block.inode over.moment _ h (write-keeps P wanted offered is_gone _ _ pipe (own, refl) (h.each block.inode pipe (found-row _ _ pipe here)))))))
 
   released-keeps : (r : Resources) (number inode moment : ℕ) (row : Option (Pipe WaitingCall)) → InPipes r.pipes → ((pipe : Pipe WaitingCall) → row ≡ Some pipe → InPipe P pipe) → InDeed (released r number inode moment row)
   released-keeps r number inode moment None h here = record { pipes = h; answers = tt }
@@ -542,10 +526,14 @@ module _ (P : WaitingCall → Type 0) (caller : Caller) where
   quiet-gives : (given : Result (Deed Resources) Errno) → Gives (Quiet (InPipes P)) given → Gives DeedKeeps given
   quiet-gives given h = gives_more (Quiet (InPipes P)) DeedKeeps given quiet-keeps h
 
-  -- what is left without a reply may be the caller's own call
-  own-gives : (given : Result (Deed Resources) Errno) → ((deed : Deed Resources) → given ≡ Ok deed → deed.reply ≡ None) → (Own → Gives (InDeed P) given) → Gives DeedKeeps given
-  own-gives (Ok deed) none h = gives_done _ _ (record { keeps = λ own. gives-value (InDeed P) (Ok deed) deed refl (h (own (none deed refl))) })
-  own-gives (Err error) none h = gives_error _ _
+  idle-keeps : (pipe : Pipe WaitingCall) → IsIdle pipe → InPipe P pipe
+  idle-keeps pipe nobody = record { readers = subst (AllByRecursion P) (sym nobody.0) tt; writers = subst (AllByRecursion P) (sym nobody.1) tt }
+
+  -- a READ or a WRITE that is left without a reply may be the caller's own call; of one that is replied to nobody waits
+  call-keeps : (resources : Resources) (inode moment : ℕ) (pipe : Pipe WaitingCall) (after : PipeAfter WaitingCall) → InPipes P resources.pipes → (Own → InAfter (Stays P) after) → (IsIdle pipe → RepliesIdle after) → DeedKeeps (deed_of_call resources inode moment pipe after)
+  call-keeps resources inode moment pipe after h kept replies =
+      call-by DeedKeeps resources inode moment pipe after (record { keeps = λ own. after-keeps P resources inode moment after h (kept (own refl)) }) (λ nobody status bytes is.
+      quiet-keeps _ (reply-quiet (InPipes P) _ _ _ _ (set-keeps P resources.pipes inode (Some after.pipe) h (λ left put. subst (InPipe P) (same_Some _ _ put) (idle-keeps after.pipe (replies nobody status bytes is))))))
 
   module _ (resources : Resources) (h : InPipes P resources.pipes) (context : Context) (callers : (over : Opened) → context.opened ≡ Ok over → caller_in over ≡ caller) where
     pipe-closed : (own : Kind) (over : Opened) → Gives DeedKeeps (close_last own resources over)
@@ -554,10 +542,20 @@ module _ (P : WaitingCall → Type 0) (caller : Caller) where
         gives_done _ _ (record { keeps = λ own. record { pipes = left.pipes; answers = left.answers } }))
 
     read-own : (over : Opened) (count : ℕ) → caller_in over ≡ caller → Gives DeedKeeps (read_pipe resources over count)
-    read-own over count same = own-gives _ (λ deed is. gives-value (λ (d : Deed Resources). d.reply ≡ None) _ deed is (search (gives_on, gives_done))) (λ own. read-gives P resources over count h (own-waits over count [] same own))
+    read-own over count same =
+        gives_on _ (found (row_at resources.inodes.blocks over.number) EBADF) _ (λ block opened.
+        gives_on _ (need (reads block.flags) EBADF) _ (λ may allowed.
+        gives_on _ (found (row_at resources.pipes block.inode) EISDIR) _ (λ pipe here.
+        gives_done _ _ (call-keeps resources block.inode over.moment pipe _ h
+        (λ own. read-keeps P wanted offered is_gone _ _ pipe (own-waits over count [] same own, refl) (h.each block.inode pipe (found-row _ _ pipe here))) (read-idle wanted offered is_gone _ _ pipe)))))
 
     write-own : (over : Opened) (bytes : List ℕ) → caller_in over ≡ caller → Gives DeedKeeps (write_pipe resources over bytes)
-    write-own over bytes same = own-gives _ (λ deed is. gives-value (λ (d : Deed Resources). d.reply ≡ None) _ deed is (search (gives_on, gives_done))) (λ own. write-gives P resources over bytes h (own-waits over 0 bytes same own))
+    write-own over bytes same =
+        gives_on _ (found (row_at resources.inodes.blocks over.number) EBADF) _ (λ block opened.
+        gives_on _ (need (writes block.flags) EBADF) _ (λ may allowed.
+        gives_on _ (found (row_at resources.pipes block.inode) EBADF) _ (λ pipe here.
+        gives_done _ _ (call-keeps resources block.inode over.moment pipe _ h
+        (λ own. write-keeps P wanted offered is_gone _ _ pipe (own-waits over 0 bytes same own, refl) (h.each block.inode pipe (found-row _ _ pipe here))) (write-idle wanted offered is_gone _ _ pipe)))))
 
     pipe-gives : (own : Kind) (message : Message) → Gives DeedKeeps (message_deed (pipe_connect own) (pipe_io own) resources context message)
     pipe-gives own (msg.Open flags mode rest) = gives_on _ (new_open context) _ (λ over is. quiet-gives _ (open-gives (InPipes P) own resources over rest _ (empty-keeps P own) h))

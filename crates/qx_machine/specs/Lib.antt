@@ -20,6 +20,7 @@ pub mod PipeManager
 pub mod Pipes
 pub mod Processes
 pub mod RamManager
+pub mod Reads
 pub mod Resources
 pub mod Runs
 pub mod Servers

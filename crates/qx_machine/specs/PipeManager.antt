@@ -8,13 +8,14 @@ use Rattle.qx_types.specs.declared.fields.Whence.{Whence}
 use Rattle.qx_types.specs.declared.outcome.Outcome.{Outcome}
 use Rattle.qx_types.specs.declared.outcome.Outcome.TheVariants.{WrongState}
 use Rattle.qx_machine.specs.declared.rows.Attribute.{Attribute}
+use Rattle.qx_machine.specs.declared.rows.Effect.TheVariants.{Keeps}
 use Rattle.qx_machine.specs.declared.rows.Opened.{Opened}
 use Rattle.qx_machine.specs.declared.rows.WaitingCall.{WaitingCall}
-use Rattle.qx_machine.specs.Functions.{Deed}
+use Rattle.qx_machine.specs.Functions.{Deed, reply_alone}
 use Rattle.qx_machine.specs.Inodes.{readers_of, reads, writers_of, writes}
 use Rattle.qx_isolation.specs.Judgements.{◌>>=◌, found, need}
 use Rattle.qx_machine.specs.Names.{has_calls, is_directory}
-use Rattle.qx_machine.specs.Pipes.{PipeAfter, Pipe, cancel, read, release, write}
+use Rattle.qx_machine.specs.Pipes.{PipeAfter, Pipe, cancel, is_idle, only_reply, read, release, write}
 use Rattle.qx_machine.specs.Resources.{Resources, resized}
 use Rattle.qx_isolation.specs.Rows.{row_at, with_row}
 use Rattle.qx_machine.specs.Waiting.{holds, is_call, is_gone, is_over, is_written, manner_of, offered, sides_of, waiting_call, wanted}
@@ -41,21 +42,32 @@ deed_of_pipe r inode moment after = record {
   answers = after.answers;
 }
 
--- a READ is answered with those who waited, or waits; the mount's root can't be read
+-- the status and the bytes that a message is told at once are its reply, and nobody else is answered
+abbrev pub replied_at_once : Deed Resources → Option (ℕ × List ℕ) → Deed Resources
+replied_at_once deed None = deed
+replied_at_once deed (Some (status, bytes)) = reply_alone status bytes Keeps deed.state
+
+-- a READ or a WRITE was done to a pipe: where nobody waited there, none but its own call can be answered, and a reply to that is told as the
+-- reply to its message; else its message is left without a reply, whoever is answered
+abbrev pub deed_of_call : Resources → ℕ → ℕ → Pipe WaitingCall → PipeAfter WaitingCall → Deed Resources
+deed_of_call r inode moment pipe after =
+    if is_idle pipe then replied_at_once (deed_of_pipe r inode moment after) (only_reply after.answers) else deed_of_pipe r inode moment after
+
+-- a READ is replied to, is answered with those who waited, or waits; the mount's root can't be read
 abbrev pub read_pipe : Resources → Opened → ℕ → Result (Deed Resources) Errno
 read_pipe r opened count = do
   block ← found (row_at r.inodes.blocks opened.number) EBADF
   reading ← need (reads block.flags) EBADF
   pipe ← found (row_at r.pipes block.inode) EISDIR
-  Ok (deed_of_pipe r block.inode opened.moment (read wanted offered is_gone (manner_of (writers_of r.inodes block.inode) block opened.is_asked) (waiting_call opened count []) pipe))
+  Ok (deed_of_call r block.inode opened.moment pipe (read wanted offered is_gone (manner_of (writers_of r.inodes block.inode) block opened.is_asked) (waiting_call opened count []) pipe))
 
--- a WRITE is answered with those who waited, or waits
+-- a WRITE is replied to, is answered with those who waited, or waits
 abbrev pub write_pipe : Resources → Opened → List ℕ → Result (Deed Resources) Errno
 write_pipe r opened bytes = do
   block ← found (row_at r.inodes.blocks opened.number) EBADF
   writing ← need (writes block.flags) EBADF
   pipe ← found (row_at r.pipes block.inode) EBADF
-  Ok (deed_of_pipe r block.inode opened.moment (write wanted offered is_gone (manner_of (readers_of r.inodes block.inode) block opened.is_asked) (waiting_call opened 0 bytes) pipe))
+  Ok (deed_of_call r block.inode opened.moment pipe (write wanted offered is_gone (manner_of (readers_of r.inodes block.inode) block opened.is_asked) (waiting_call opened 0 bytes) pipe))
 
 -- a pipe has no offset (C Library Reference: lseek, ESPIPE), nor has the mount's root
 abbrev pub seek_pipe : Resources → Opened → Whence → ℤ → Result (Deed Resources) Errno

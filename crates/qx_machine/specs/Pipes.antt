@@ -1,7 +1,7 @@
 -- Pipes (C Library Reference: pipe, read, write, close; that nobody waits for an open, that a write is never taken in part, and how many
 -- bytes stand in a pipe is this profile), and devices of an author's own, in which calls wait as in a pipe. What waits are messages, told by
 -- whatever stands for them.
-use Rattle.std.specs.Prelude.{Bool, ◌==◌, ◌||◌, not, true, filter, ℕ, List, [], ◌∷◌, ◌++◌, length, map, Option, Some, None, if◌then◌else◌}
+use Rattle.std.specs.Prelude.{Bool, ◌==◌, ◌&&◌, ◌||◌, not, true, filter, ℕ, List, [], ◌∷◌, ◌++◌, length, map, Option, Some, None, if◌then◌else◌}
 use Rattle.qx_errno.specs.declared.Errno.TheVariants.{EAGAIN, EBADF, EINTR, EPIPE}
 use Rattle.qx_devices.specs.declared.Device.{Device}
 use Rattle.qx_types.specs.declared.outcome.Answer.{Answer}
@@ -28,6 +28,10 @@ module _ {W : Type 0} where
   abbrev pub pipe_of : Option Device → List ℕ → List W → List W → Pipe W
   pipe_of device bytes readers writers = record { device = device; bytes = bytes; readers = readers; writers = writers }
 
+  -- nobody waits in a pipe
+  abbrev pub is_idle : Pipe W → Bool
+  is_idle p = (length p.readers == 0) && (length p.writers == 0)
+
   abbrev pub nobody_answered : Pipe W → PipeAfter W
   nobody_answered p = record { pipe = p; answers = [] }
 
@@ -47,6 +51,11 @@ module _ {W : Type 0} where
   abbrev pub tried : W → Option (Answer × List ℕ) → (List ℕ → PipeAfter W) → PipeAfter W → PipeAfter W
   tried who None next otherwise = otherwise
   tried who (Some (answer, bytes)) next otherwise = first_answered who answer (next bytes)
+
+  -- the status and the bytes of a reply that is the only answer
+  abbrev pub only_reply : List (W × Answer) → Option (ℕ × List ℕ)
+  only_reply ((who, Reply status bytes) ∷ []) = Some (status, bytes)
+  only_reply _ = None
 
   -- what follows is done with the pipe as it is then
   abbrev pub and_then : PipeAfter W → (Pipe W → PipeAfter W) → PipeAfter W

@@ -1,4 +1,4 @@
--- The child list of one directory: where its entries stand, and what becomes of it as one is put in or taken out.
+-- The list of a user's entries: where each stands, and what becomes of the list as one is put in or taken out.
 use Rattle.std.specs.Prelude.{ℕ, zero, suc, ◌+◌, ◌-◌, ◌≢◌, ◌<◌, ◌⊎◌, List, [], ◌∷◌, Contains, Option, None, Some, get_or, insert, is_some, length, map as mapped, nat_eq, remove, slice_get, unwrap_or}
 use Rattle.std.specs.FinMap as map
 use Rattle.std.specs.FinMap.Entries.{find, is_sorted-put, is_sorted-where_key, put, where_key}

@@ -2,7 +2,7 @@
 pub mod RisingLemmas
 -- nodes by their places
 pub mod IndexLemmas
--- the child list of one directory
+-- the list of a user's entries
 pub mod ChildLemmas
 -- the entries of one directory among those of all
 pub mod PairLemmas

@@ -148,37 +148,6 @@ module _ (t : Table Entry) (children : Children) (keeps : Keeps t children) (lis
 
 -- ---- all of the table
 
-pub turned-all : (t new : Table Entry) (children now : Children) → ((list : ℕ) → is_some (map.get t.lists list) ≡ true → children.list ≡ Some list) → ((node : ℕ) → ContainsNode t node → Contains children.nodes node) → Turns t new children now
-    → ((list : ℕ) → is_some (map.get new.lists list) ≡ true → now.list ≡ Some list) × ((node : ℕ) → ContainsNode new node → Contains now.nodes node)
-turned-all t new children now owned used turns = (owns, uses)
-  where
-    is_or_not : (x : Option ℕ) (list : ℕ) → (x ≡ Some list) ⊎ (x ≢ Some list)
-    is_or_not None list = inr (none_some list)
-    is_or_not (Some other) list = elim (eqb_tells other list) [
-      | inl same ↦ inl (ap Some same.1)
-      | inr differs ↦ inr (λ e. differs.1 (ap (λ o. unwrap_or o list) e))
-    ]
-
-    owns : (list : ℕ) → is_some (map.get new.lists list) ≡ true → now.list ≡ Some list
-    owns list stands = by (is_or_not now.list list) (is_or_not children.list list)
-      where
-        by : ((now.list ≡ Some list) ⊎ (now.list ≢ Some list)) → ((children.list ≡ Some list) ⊎ (children.list ≢ Some list)) → now.list ≡ Some list
-        by (inl p) q = p
-        by (inr p) (inl q) = elim (turns.freed list q) [
-          | inl still ↦ still
-          | inr gone ↦ absurd (let clash : is_some {T = List ℕ} None ≡ true = subst (λ (o : Option (List ℕ)). is_some o ≡ true) gone stands in cc)
-        ]
-        by (inr p) (inr q) = absurd (q (owned list (subst (λ (o : Option (List ℕ)). is_some o ≡ true) (turns.others list q p) stands)))
-
-    uses : (node : ℕ) → ContainsNode new node → Contains now.nodes node
-    uses node stands = elim (turns.added node stands) [
-      | inl now ↦ now
-      | inr was ↦ turns.stays node (used node was) stands
-    ]
-
-pub kept-all : (t new : Table Entry) (children now : Children) → KeepsAll t children → Turns t new children now → KeepsAll new now
-kept-all t new children now all turns = let rest = turned-all t new children now all.owned all.used turns in record { keeps = turns.keeps; owned = rest.0; used = rest.1 }
-
 pub kept-none : (t : Table Entry) (children : Children) → t ≡ record { lists = map.empty; values = map.empty; room = 0 } → children ≡ no_children → KeepsAll t children
 kept-none t children empty none = record {
   keeps = subst (Keeps t) (sym none) (record { listed = λ list e. absurd (none_some list e); some = λ list e. absurd (none_some list e); none = λ e. refl; rising = tt });

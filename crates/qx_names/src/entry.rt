@@ -1,4 +1,4 @@
-//! What a node of a directory's child list has.
+//! What a node of the list of a user's entries has.
 
 ghost use Rattle.std.specs.Prelude.{◌≡◌, ◌≢◌, ◌≤◌, true, false, IfOk, IsOk, length};
 ghost use Rattle.qx_types.specs.declared.limits.TheConstants.Limits.{COMPONENT};

@@ -13,9 +13,8 @@ use Rattle.qx_types.specs.declared.outcome.Answer.TheVariants.{Failed, Reply}
 use Rattle.qx_machine.specs.declared.rows.Manner.{Manner}
 use Rattle.qx_machine.specs.declared.rows.WaitingCall.{WaitingCall}
 use Rattle.qx_machine.specs.Waiting.{is_gone, offered, wanted}
-use Rattle.qx_machine.specs.Pipes.{PipeAfter, Pipe, and_then, clean_read, clean_write, if_first, one_answered, read, read_told, told_or_waiting, with_reader, with_writer, write, write_told}
+use Rattle.qx_machine.specs.Pipes.{PipeAfter, Pipe, and_then, clean_read, clean_write, if_first, one_answered, only_reply, read, read_told, told_or_waiting, with_reader, with_writer, write, write_told}
 use Rattle.qx_machine.specs.Verdicts.{read_ended, told_of, write_ended}
-use Rattle.qx_pipe.specs.Alone.{is_one_reply}
 use Rattle.qx_pipe.specs.inner.Turns.{NobodyWaits, status_given}
 use Rattle.qx_pipe.proofs.TurnLemmas.{clean-alone, not_zero, settle-alone}
 
@@ -38,15 +37,15 @@ module _ (manner : Manner) (who : WaitingCall) (p with_it : Pipe WaitingCall) wh
     told-alone answer left is = rw (none, is) (ap (λ (after : PipeAfter WaitingCall). record after { answers = (who, answer) ∷ after.answers }) (settle-alone (record p { bytes = left }) nobody))
 
     -- who can't be served at once gets no reply
-    pub told-silent : IsNoReply told → is_one_reply (comes_to ended told).answers ≡ false
+    pub told-silent : IsNoReply told → only_reply (comes_to ended told).answers ≡ None
     told-silent quiet = rw none (of told quiet)
       where
-        of : (told : Option (Answer × List ℕ)) → IsNoReply told → is_one_reply (comes_to None told).answers ≡ false
+        of : (told : Option (Answer × List ℕ)) → IsNoReply told → only_reply (comes_to None told).answers ≡ None
         of None quiet =
-            cond_both {A = PipeAfter WaitingCall} manner.is_nonblock _ _ (λ after. is_one_reply after.answers ≡ false) (λ _. refl)
-            (λ _. cond_both {A = PipeAfter WaitingCall} manner.is_asked _ _ (λ after. is_one_reply after.answers ≡ false) (λ _. refl) (λ _. refl))
+            cond_both {A = PipeAfter WaitingCall} manner.is_nonblock _ _ (λ after. only_reply after.answers ≡ None) (λ _. refl)
+            (λ _. cond_both {A = PipeAfter WaitingCall} manner.is_asked _ _ (λ after. only_reply after.answers ≡ None) (λ _. refl) (λ _. refl))
         of (Some (Reply status bytes, left)) quiet = absurd quiet
-        of (Some (Failed error, left)) quiet = ap (λ (after : PipeAfter WaitingCall). is_one_reply ((who, Failed error) ∷ after.answers)) (settle-alone (record p { bytes = left }) nobody)
+        of (Some (Failed error, left)) quiet = ap (λ (after : PipeAfter WaitingCall). only_reply ((who, Failed error) ∷ after.answers)) (settle-alone (record p { bytes = left }) nobody)
 
 -- ---- a READ and a WRITE where nobody waits
 
@@ -145,10 +144,6 @@ given-nothing (told.Fails error) bytes state none = tt
 given-nothing (told.Gives given) bytes state none = absurd (cc)
 
 -- ---- a result by its cases
-
-pub some-by : {A : Type 0} (result : Option A) {P : A → Type 0} → ((x : A) → result ≡ Some x → P x) → IfSome result P
-some-by None each = tt
-some-by (Some x) each = each x refl
 
 pub none-by : {A : Type 0} (result : Option A) {P : Type 0} → (result ≡ None → P) → IfNone result P
 none-by None then_is = then_is refl

@@ -1,3 +1,2 @@
-pub mod Alone
 pub mod Laws
 pub mod inner

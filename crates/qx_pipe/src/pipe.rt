@@ -6,11 +6,10 @@
 ghost use Rattle.std.specs.Prelude.{◌≡◌, ◌==◌, ◌<◌, ◌≤◌, ◌+◌, ◌++◌, [], None, Some, IfErr, IfNone, IfOk, IfSome, IsFalse, IsTrue, OnErr, false, if◌then◌else◌, length, not};
 ghost use Rattle.qx_machine.specs.Waiting.{is_call, is_gone, offered, waiting_call, wanted};
 ghost use Rattle.qx_machine.specs.Pipes as machine;
-ghost use Rattle.qx_machine.specs.Pipes.{clean_read, clean_write, dismissed, nobody_answered, one_answered, read_told, readers_ended, without_bytes, write_told, writers_ended};
+ghost use Rattle.qx_machine.specs.Pipes.{clean_read, clean_write, dismissed, is_idle, nobody_answered, one_answered, only_reply, read_told, readers_ended, without_bytes, write_told, writers_ended};
 ghost use Rattle.qx_machine.specs.Verdicts as verdicts;
 ghost use Rattle.qx_machine.specs.Verdicts.{read_ended};
 ghost use Rattle.qx_machine.specs.declared.rows.Opened.{Opened as AnyOpened};
-ghost use Rattle.qx_pipe.specs.Alone.{is_idle, is_one_reply};
 ghost use Rattle.qx_pipe.specs.inner.Turns.{NobodyWaits, Served, Turning, settling, status_given, unless_served, waiting_count};
 ghost use Rattle.qx_queues.specs.Waits.{leaves};
 ghost use Rattle.qx_shared.specs.Shared.{HasPipe, IsCallReceived, pipe_at, waiting_on, went_in, with_pipe_after};
@@ -109,7 +108,7 @@ pub fn read_alone(
     ensures told { IfSome result (λ told. (opened : AnyOpened) → machine.read wanted offered is_gone manner (waiting_call opened count []) (pipe_at shared.old user.0 inode) ≡ one_answered (waiting_call opened count []) (TheReply told.status reply.new) (pipe_at shared.new user.0 inode)) }
     ensures size { IfSome result (λ told. told.size ≡ length (pipe_at shared.new user.0 inode).bytes) }
     ensures left { IfSome result (λ told. shared.new ≡ with_pipe_after shared.old user.0 inode (nobody_answered (pipe_at shared.new user.0 inode))) }
-    ensures otherwise { IfNone result (IsTrue (is_idle (pipe_at shared.old user.0 inode)) → (opened : AnyOpened) → is_one_reply (machine.read wanted offered is_gone manner (waiting_call opened count []) (pipe_at shared.old user.0 inode)).answers ≡ false) }
+    ensures otherwise { IfNone result (IsTrue (is_idle (pipe_at shared.old user.0 inode)) → (opened : AnyOpened) → only_reply (machine.read wanted offered is_gone manner (waiting_call opened count []) (pipe_at shared.old user.0 inode)).answers ≡ None) }
     ensures same { IfNone result (shared.new ≡ shared.old) }
     ensures unused { IfNone result (reply.new ≡ []) }
 {
@@ -156,7 +155,7 @@ pub fn write_alone(
     ensures told { IfSome result (λ told. (opened : AnyOpened) → machine.write wanted offered is_gone manner (waiting_call opened 0 bytes.now) (pipe_at shared.old user.0 inode) ≡ one_answered (waiting_call opened 0 bytes.now) (TheReply told.status []) (pipe_at shared.new user.0 inode)) }
     ensures size { IfSome result (λ told. told.size ≡ length (pipe_at shared.new user.0 inode).bytes) }
     ensures left { IfSome result (λ told. shared.new ≡ with_pipe_after shared.old user.0 inode (nobody_answered (pipe_at shared.new user.0 inode))) }
-    ensures otherwise { IfNone result (IsTrue (is_idle (pipe_at shared.old user.0 inode)) → (opened : AnyOpened) → is_one_reply (machine.write wanted offered is_gone manner (waiting_call opened 0 bytes.now) (pipe_at shared.old user.0 inode)).answers ≡ false) }
+    ensures otherwise { IfNone result (IsTrue (is_idle (pipe_at shared.old user.0 inode)) → (opened : AnyOpened) → only_reply (machine.write wanted offered is_gone manner (waiting_call opened 0 bytes.now) (pipe_at shared.old user.0 inode)).answers ≡ None) }
     ensures same { IfNone result (shared.new ≡ shared.old) }
 {
     if anyone_waits(shared, user, inode) {

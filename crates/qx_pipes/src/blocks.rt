@@ -10,7 +10,7 @@ ghost use Rattle.qx_machine.specs.Resources.{Resources};
 ghost use Rattle.qx_isolation.specs.Rows.{with_row};
 ghost use Rattle.qx_machine.specs.Waiting.{caller_in, holds, is_call, is_written};
 ghost use Rattle.qx_pipes.specs.Pipes.{Follows, done_of, kind_with, seen};
-ghost use Rattle.qx_pipes.specs.Told.{bytes_told, status_told, told_alone};
+ghost use Rattle.qx_pipes.specs.Told.{bytes_told, status_told};
 ghost use Rattle.qx_shared.specs.Shared.{IsReceived, pipe_at, pipes_of, callers_thread, with_row_at};
 ghost use Rattle.qx_types.specs.declared.flags.TheConstants.OFlags.{NONBLOCK};
 ghost use Rattle.qx_types.specs.declared.limits.TheConstants.Limits.{TRANSFER};
@@ -44,9 +44,9 @@ pub fn read(
     requires empty { reply.old ≡ [] }
     requires room { IsSome room.old }
     ensures user { store.new.stored.user ≡ store.old.stored.user }
-    ensures done { (r : Resources) → result ≡ status_told (told_alone (seen r store.old.stored shared.old) opened (machine.read_pipe (seen r store.old.stored shared.old) opened wanted)) }
-    ensures left { (r : Resources) → Follows store.old.stored shared.old store.new.stored shared.new r (told_alone (seen r store.old.stored shared.old) opened (machine.read_pipe (seen r store.old.stored shared.old) opened wanted)) }
-    ensures bytes { (r : Resources) → reply.new ≡ bytes_told (told_alone (seen r store.old.stored shared.old) opened (machine.read_pipe (seen r store.old.stored shared.old) opened wanted)) }
+    ensures done { (r : Resources) → result ≡ status_told (machine.read_pipe (seen r store.old.stored shared.old) opened wanted) }
+    ensures left { (r : Resources) → Follows store.old.stored shared.old store.new.stored shared.new r (machine.read_pipe (seen r store.old.stored shared.old) opened wanted) }
+    ensures bytes { (r : Resources) → reply.new ≡ bytes_told (machine.read_pipe (seen r store.old.stored shared.old) opened wanted) }
     ensures room { MatchResult result (λ status. MatchOption status (room.new ≡ None) (λ told. room.new ≡ room.old)) (λ error. room.new ≡ room.old) }
 {
     let block = store.inodes().block_for(opened.number, OFlags::READ)?;
@@ -86,9 +86,9 @@ pub fn write(
     requires fits { length bytes.now ≤ TRANSFER }
     requires room { IsSome room.old }
     ensures user { store.new.stored.user ≡ store.old.stored.user }
-    ensures done { (r : Resources) → result ≡ status_told (told_alone (seen r store.old.stored shared.old) opened (machine.write_pipe (seen r store.old.stored shared.old) opened bytes.now)) }
-    ensures left { (r : Resources) → Follows store.old.stored shared.old store.new.stored shared.new r (told_alone (seen r store.old.stored shared.old) opened (machine.write_pipe (seen r store.old.stored shared.old) opened bytes.now)) }
-    ensures bytes { (r : Resources) → bytes_told (told_alone (seen r store.old.stored shared.old) opened (machine.write_pipe (seen r store.old.stored shared.old) opened bytes.now)) ≡ [] }
+    ensures done { (r : Resources) → result ≡ status_told (machine.write_pipe (seen r store.old.stored shared.old) opened bytes.now) }
+    ensures left { (r : Resources) → Follows store.old.stored shared.old store.new.stored shared.new r (machine.write_pipe (seen r store.old.stored shared.old) opened bytes.now) }
+    ensures bytes { (r : Resources) → bytes_told (machine.write_pipe (seen r store.old.stored shared.old) opened bytes.now) ≡ [] }
     ensures room { MatchResult result (λ status. MatchOption status (room.new ≡ None) (λ told. room.new ≡ room.old)) (λ error. room.new ≡ room.old) }
 {
     let block = store.inodes().block_for(opened.number, OFlags::WRITE)?;

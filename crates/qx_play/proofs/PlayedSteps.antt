@@ -10,7 +10,7 @@ use Rattle.qx_types.specs.declared.step.Step.TheVariants.{Call, TakeReply, Recei
 use Rattle.qx_machine.specs.Machine.{step}
 use Rattle.qx_script.specs.declared.command.Command.{Command}
 use Rattle.qx_script.specs.declared.command.Command.TheVariants.{Take, Serve, Do, Show, Erased, Trace}
-use Rattle.qx_steps.specs.Reads.{next_manager}
+use Rattle.qx_machine.specs.Reads.{next_manager}
 use Rattle.qx_play.specs.Play.{Played, all_served, called, first_worker, hand_emptied, has_answer, is_holding, is_sent, played, played_line, played_lines, with_reply_taken, round, rounds, with_lines_served, items_waiting, world_played}
 use Rattle.qx_words.specs.Kinds.{CanNameThread}
 use Rattle.qx_script.specs.Lines.{CanSay}

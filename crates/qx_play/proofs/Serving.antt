@@ -25,7 +25,7 @@ use Rattle.qx_machine.specs.Users as users
 use Rattle.qx_machine.specs.Users.{serve}
 use Rattle.qx_isolation.proofs.Workers.{after_doing, after_item, after_taking, item_done, item_taken, server_leaves}
 use Rattle.qx_play.proofs.Weights.{first_weighs, performed_weighs, waiting_weighs, waiting_weighs_at_most, weight_of, weight_of_lines, weight_waiting}
-use Rattle.qx_steps.specs.Reads.{has_item, next_manager}
+use Rattle.qx_machine.specs.Reads.{has_item, next_manager}
 use Rattle.qx_play.specs.Play.{first_worker, items_waiting, round, rounds, world_played, hand_emptied, all_served, with_lines_served}
 
 -- what each step keeps: the number of workers, a place for each one's hand and a line for each manager

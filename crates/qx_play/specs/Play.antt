@@ -11,7 +11,7 @@ use Rattle.qx_types.specs.declared.step.Step.TheVariants.{Call, TakeReply, Recei
 use Rattle.qx_machine.specs.Machine.{World, step}
 use Rattle.qx_isolation.specs.Rows.{row_at}
 use Rattle.qx_machine.specs.Runs.{erase, run, received}
-use Rattle.qx_steps.specs.Reads.{is_thread_answered, next_manager, row_among_parts}
+use Rattle.qx_machine.specs.Reads.{is_thread_answered, next_manager, row_among_parts}
 use Rattle.qx_script.specs.declared.command.Command.{Command}
 use Rattle.qx_script.specs.declared.command.Command.TheVariants.{Take, Serve, Do, Show, Erased, Trace}
 use Rattle.qx_play.specs.Printed.{trace_text, transcript_text}

@@ -22,10 +22,6 @@ use Rattle.qx_pool.proofs.OutcomeLemmas.{step_gives}
 none_of : (worker : ℕ) → All {X = Note} (λ n. is_of_worker worker n.step ≡ true) []
 none_of worker i d lt = absurd (omega arith)
 
--- no note more
-pub adds_none : (worker : ℕ) (notes : List Note) → AddsOf worker notes notes
-adds_none worker notes = ([], sym (append-nil notes), none_of worker)
-
 -- one of the worker's own steps, where it was stored
 pub adds_step : (worker : ℕ) (old new : List Note) (n : Note) (stored : Bool) → new ≡ (if stored then old ++ n ∷ [] else old) → is_of_worker worker n.step ≡ true → AddsOf worker old new
 adds_step worker old new n true is own = (n ∷ [], is, All-push (λ m. is_of_worker worker m.step ≡ true) [] n (none_of worker) own)

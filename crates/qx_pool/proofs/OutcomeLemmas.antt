@@ -31,8 +31,7 @@ use Rattle.qx_machine.specs.Machine.{After, World, client_step, or_same_world, o
 use Rattle.qx_machine.specs.Parts.{Part, thread_at, thread_of, with_thread_of}
 use Rattle.qx_isolation.specs.Rows.{row_at}
 use Rattle.qx_machine.specs.Users.{client}
-use Rattle.qx_chan.specs.Calls.{answer_of}
-use Rattle.qx_steps.specs.Reads.{process_of_part, row_among_parts}
+use Rattle.qx_machine.specs.Reads.{answer_of, process_of_part, row_among_parts}
 use Rattle.qx_pool.specs.Outcomes.{is_reply, may_be_taken, may_end_call, may_give}
 
 -- what refuses a step is so

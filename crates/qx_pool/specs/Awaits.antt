@@ -3,7 +3,7 @@ use Rattle.std.specs.Prelude.{Bool, is_some, not}
 use Rattle.qx_types.specs.declared.names.Thread.{Thread}
 use Rattle.qx_machine.specs.Machine.{World}
 use Rattle.qx_process.specs.Reads.{is_thread_blocked}
-use Rattle.qx_steps.specs.Reads.{next_manager, row_among_parts}
+use Rattle.qx_machine.specs.Reads.{next_manager, row_among_parts}
 use Rattle.qx_pool.specs.declared.waits.Awaited.{Awaited}
 use Rattle.qx_pool.specs.declared.waits.Awaited.TheVariants.{Answer, Item}
 

@@ -208,7 +208,3 @@ side_served process thread manager settled count is =
     let there : sides_with number (get_or process.sides thread None) ≡ true = ap (sides_with number) (sym (row_at-get_or process.sides thread) ∙ is) ∙ same_number number in
     served_while (λ number. is_attached number process.connections process.sides) number process.servers (omega (arith, within, place)) settled
     ∙ ap (λ b. list_any (connects number) process.connections || b) (any_there (sides_with number) process.sides thread refl there) ∙ or-true _
-
--- while a server connection is in use, none is made
-pub served_place : (servers : Servers) → is_some (in_use servers) ≡ true → HasPlace servers
-served_place servers served none = absurd (false≢true (ap is_some (sym none) ∙ served))

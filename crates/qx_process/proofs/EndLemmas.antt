@@ -56,9 +56,6 @@ length-left (suc number) [] = refl
 length-left zero (servers ∷ all) = refl
 length-left (suc number) (servers ∷ all) = ap suc (length-left number all)
 
-pub left-whole : (all : List Servers) → length all ≡ COUNT → left_below COUNT all ≡ map left all
-left-whole all count = ap₂ (λ xs ys. map left xs ++ ys) (take_all COUNT all (omega (arith, count))) (drop_all COUNT all (omega (arith, count))) ∙ append-nil (map left all)
-
 -- the one that is lost at a manager
 lost-one : (manager : Manager) (lost : Option ServerName) (number : Option ℕ) → option_to_list lost ≡ lost_by manager number None → lost ≡ option_map (named manager) number
 lost-one manager None None is = refl

@@ -1,6 +1,6 @@
 -- A row that was lent and is left as it was.
 use Rattle.std.proofs.Common.{◌≡◌, ℕ, List, Option, Some, None, refl}
-use Rattle.std.specs.Prelude.{OnSome, option_map, slice_set}
+use Rattle.std.specs.Prelude.{OnSome}
 use Rattle.qx_machine.specs.declared.rows.ThreadRow.{ThreadRow}
 use Rattle.qx_machine.specs.Parts.{thread_of}
 use Rattle.qx_machine.specs.Processes.{Process}
@@ -20,9 +20,3 @@ put_thread_same rows number thread row there = by_process (row_at rows number) r
 pub if_there : {A : Type 0} {P : Type 0} (place : Option A) → P → OnSome place P
 if_there None holds = tt
 if_there (Some row) holds = holds
-
--- where no row is there
-pub set_none : {A : Type 0} (rows : List (Option A)) (number : ℕ) (change : A → A) → row_at rows number ≡ None → slice_set rows number (option_map change (row_at rows number)) ≡ rows
-set_none rows number change none = with_row-none rows number change none
-
-pub ruleset row_lends = (set_none, with_row-none)

@@ -1,19 +1,14 @@
 -- How calls on a user's processes are judged, and what the processes are then.
-use Rattle.std.specs.Prelude.{ℕ, ◌≡◌, Bool, false, List, [], Option, Some, None, Result, Ok, Err, is_none}
+use Rattle.std.specs.Prelude.{ℕ, ◌≡◌, Bool, false, List, [], Option, Some, None, Result, Ok, Err}
 use Rattle.std.specs.List.{flat_map}
 use Rattle.std.specs.Option.{option_to_list}
-use Rattle.qx_errno.specs.declared.Errno.TheVariants.{EAGAIN}
-use Rattle.qx_types.specs.declared.names.Coid.{Coid}
-use Rattle.qx_types.specs.declared.names.Manager.{Manager}
 use Rattle.qx_types.specs.declared.outcome.Outcome.{Outcome}
-use Rattle.qx_types.specs.declared.outcome.Outcome.TheVariants.{Spawned, Refused, Done, WrongState}
+use Rattle.qx_types.specs.declared.outcome.Outcome.TheVariants.{Spawned, Done, WrongState}
 use Rattle.qx_isolation.specs.declared.rows.ServerName.{ServerName}
 use Rattle.qx_machine.specs.declared.rows.Target.{Target}
-use Rattle.qx_types.specs.UserLimits.{UserLimits}
-use Rattle.qx_machine.specs.Calls.{can_serve, free_connection}
 use Rattle.qx_machine.specs.Clients.{may_give}
-use Rattle.qx_isolation.specs.Judgements.{◌>>=◌, found, need}
-use Rattle.qx_machine.specs.Processes.{Process, has_ended, new_process, ranked_thread, with_side, with_thread}
+use Rattle.qx_isolation.specs.Judgements.{◌>>=◌, found}
+use Rattle.qx_machine.specs.Processes.{Process, has_ended, new_process, ranked_thread, with_thread}
 use Rattle.qx_isolation.specs.Rows.{row_at, put_row, with_row}
 use Rattle.qx_process.specs.Reads.{CanAttach, Loses, LosesAll}
 
@@ -49,23 +44,6 @@ with_prio ceiling processes number thread prio = do
   row ← found (row_at process.threads thread) WrongState
   allowed ← may_give ceiling prio
   Ok (with_row processes number (with_thread thread (ranked_thread prio)))
-
--- the number of a new connection (C Library Reference: ConnectAttach, EMFILE and EAGAIN)
-abbrev pub new_connection_number : UserLimits → List (Option Process) → ℕ → Manager → Result Coid Outcome
-new_connection_number limits processes number manager = do
-  process ← found (row_at processes number) WrongState
-  free ← free_connection limits.connections process
-  served ← need (can_serve limits.servers processes process manager) (Refused EAGAIN)
-  Ok (record { 0 = free })
-
--- a thread that has no side connection gets one
-abbrev pub with_new_side : ℕ → List (Option Process) → ℕ → ℕ → Manager → Result (List (Option Process)) Outcome
-with_new_side servers processes number thread manager = do
-  process ← found (row_at processes number) WrongState
-  row ← found (row_at process.threads thread) WrongState
-  free ← need (is_none (row_at process.sides thread)) WrongState
-  served ← need (can_serve servers processes process manager) (Refused EAGAIN)
-  Ok (with_row processes number (with_side thread (Some manager)))
 
 -- the process is there, and what a message goes over can be attached to the target's manager
 abbrev pub CanAttachAt : Option Process → Target → Type 0

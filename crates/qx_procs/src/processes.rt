@@ -4,18 +4,18 @@ ghost use Rattle.std.specs.Prelude.{IsSome, ◌≡◌, ◌∷◌, ◌<◌, ◌�
 ghost use Rattle.std.specs.Option.{option_copied, option_copied_mut};
 ghost use Rattle.std.specs.Borrow.{sem};
 ghost use Rattle.std.specs.List.{list_any, sum_by};
-ghost use Rattle.qx_types.specs.declared.limits.TheConstants.Limits.{PROCESSES, SERVERS, THREADS};
+ghost use Rattle.qx_types.specs.declared.limits.TheConstants.Limits.{PROCESSES, THREADS};
 ghost use Rattle.qx_machine.specs.Calls as calls;
 ghost use Rattle.qx_machine.specs.Clients as clients;
-ghost use Rattle.qx_machine.specs.Processes.{ended, living, new_process, with_connection, without_connection, with_side};
-ghost use Rattle.qx_isolation.specs.Rows.{put_row, row_at, with_row};
+ghost use Rattle.qx_machine.specs.Processes.{living, new_process};
+ghost use Rattle.qx_isolation.specs.Rows.{put_row, row_at};
 ghost use Rattle.qx_process.specs.Reads.{IsPriority};
-ghost use Rattle.qx_procs.specs.Calls.{has_ended_in, spawn_outcome, spawned, done_or, after_or, with_prio, new_connection_number, with_new_side, EndsAt, LosesAt};
+ghost use Rattle.qx_procs.specs.Calls.{has_ended_in, spawn_outcome, spawned, done_or, after_or, with_prio};
 ghost use Rattle.qx_machine.specs.Parts.{connection_of, thread_of};
 
 use qx_hint::as_mut_unchecked;
-use qx_machine::{Connection, ServerName};
-use qx_process::{LostServers, Process, ThreadCell, places};
+use qx_machine::Connection;
+use qx_process::{Process, ThreadCell, places};
 use qx_types::{Coid, Errno, LimitName, Limits, Manager, Outcome, Prio, UserLimits};
 use std::alloc::{AllocError, Global};
 use std::marker::Model;
@@ -212,108 +212,6 @@ impl Processes {
             }
         }
         count
-    }
-
-    /// A new connection of a process to a manager, under the lowest free number from 3; the server connection there is used
-    /// or made (C Library Reference: `ConnectAttach`). `WrongState` where there is no such process, EMFILE where it has as many
-    /// connections as may be, EAGAIN where the user has as many server connections at the manager and the process none in use.
-    #[tactic(auto, using(crate::proofs::ServeLemmas::new_connection))]
-    pub fn attach(
-        &mut self,
-        limits: &UserLimits,
-        process: u8,
-        manager: Manager,
-    ) -> Result<Coid, Outcome>
-        ensures coid { result ≡ new_connection_number limits.now self.old process manager }
-        ensures ok { IfOk result (λ coid. self.new ≡ with_row self.old process (with_connection coid.0 manager)) }
-        ensures err { OnErr result (self.new ≡ self.old) }
-    {
-        limits.know();
-        let coid = self.new_coid(limits, process, manager)?;
-        if let Some(row) = self.process_mut(process) {
-            row.attach(coid, manager);
-        }
-        Ok(coid)
-    }
-
-    /// The number of a new connection.
-    fn new_coid(&self, limits: &UserLimits, process: u8, manager: Manager) -> Result<Coid, Outcome>
-        ensures coid { result ≡ new_connection_number limits.now self.now process manager }
-    {
-        let Some(row) = self.process(process) else {
-            return Err(Outcome::WrongState);
-        };
-        let number = row.free_connection();
-        if number >= Limits::FIRST_CONNECTION + limits.get(LimitName::Connections) {
-            return Err(Outcome::Refused(Errno::EMFILE));
-        }
-        if !self.can_serve(limits.get(LimitName::Servers), row, manager) {
-            return Err(Outcome::Refused(Errno::EAGAIN));
-        }
-        Ok(Coid(number as u8))
-    }
-
-    /// A connection goes; gives the server connection that the process has lost with it, if it was the last that is attached to
-    /// its manager (C Library Reference: `ConnectDetach`).
-    #[tactic(auto, using(crate::proofs::LendLemmas::row_lends, crate::proofs::ServeLemmas::row_loses))]
-    pub fn detach(&mut self, process: u8, coid: Coid) -> Option<ServerName>
-        ensures rows { self.new ≡ with_row self.old process (without_connection coid.0) }
-        ensures lost { LosesAt result (row_at self.old process) (row_at self.new process) }
-    {
-        self.process_mut(process)?.detach(coid)
-    }
-
-    /// A side connection of a thread to a manager, which has no number; the server connection there is used or made (C
-    /// Library Reference: `_NTO_SIDE_CHANNEL`). `WrongState` where the thread is not there or has a side connection, EAGAIN
-    /// where the user has so many server connections at the manager and the process none in use.
-    #[tactic(auto, using(crate::proofs::ServeLemmas::can_attach))]
-    pub fn attach_side(
-        &mut self,
-        servers: usize,
-        process: u8,
-        thread: u8,
-        manager: Manager,
-    ) -> Outcome
-        requires few { servers ≤ SERVERS }
-        ensures outcome { result ≡ done_or (with_new_side servers self.old process thread manager) }
-        ensures rows { self.new ≡ after_or self.old (with_new_side servers self.old process thread manager) }
-    {
-        let Some(row) = self.process(process) else {
-            return Outcome::WrongState;
-        };
-        if row.thread(thread).is_none() || row.side(thread).is_some() {
-            return Outcome::WrongState;
-        }
-        if !self.can_serve(servers, row, manager) {
-            return Outcome::Refused(Errno::EAGAIN);
-        }
-        if let Some(row) = self.process_mut(process) {
-            row.attach_side(thread, manager);
-        }
-        Outcome::Done
-    }
-
-    /// A side connection goes; gives the server connection that the process has lost with it, if it was the last that is
-    /// attached to its manager.
-    #[tactic(auto, using(crate::proofs::LendLemmas::row_lends, crate::proofs::ServeLemmas::row_loses))]
-    pub fn detach_side(&mut self, process: u8, thread: u8) -> Option<ServerName>
-        ensures rows { self.new ≡ with_row self.old process (with_side thread None) }
-        ensures lost { LosesAt result (row_at self.old process) (row_at self.new process) }
-    {
-        self.process_mut(process)?.detach_side(thread)
-    }
-
-    /// A process ends; gives the server connections that it has lost with that (C Library Reference: `_exit`).
-    #[tactic(auto, using(crate::proofs::LendLemmas::row_lends))]
-    pub fn end(&mut self, process: u8) -> LostServers
-        ensures rows { self.new ≡ with_row self.old process ended }
-        ensures lost { EndsAt result (row_at self.old process) (row_at self.new process) }
-    {
-        let alloc = *self.rows.allocator();
-        match self.process_mut(process) {
-            Some(row) => row.end(alloc),
-            None => [None; Manager::COUNT],
-        }
     }
 
     /// A process that has ended goes, and its number is free.

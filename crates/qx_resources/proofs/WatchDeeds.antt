@@ -17,7 +17,7 @@ use Rattle.qx_machine.specs.Files.{base, moved_by, put, total_size}
 use Rattle.qx_machine.specs.Functions.{Deed}
 use Rattle.qx_machine.specs.Inodes.{readers_of, writers_of, is_open, moved_to, reads, writes}
 use Rattle.qx_isolation.specs.Judgements.{found, need}
-use Rattle.qx_machine.specs.PipeManager.{cancel_call, deed_of_pipe, read_pipe, write_pipe}
+use Rattle.qx_machine.specs.PipeManager.{cancel_call, deed_of_call, deed_of_pipe, read_pipe, write_pipe}
 use Rattle.qx_machine.specs.Pipes.{Pipe, read, write, PipeAfter, cancel}
 use Rattle.qx_machine.specs.RamManager.{read_file, seek_file, write_file, written_at, moved}
 use Rattle.qx_machine.specs.Resources.{Resources}
@@ -26,6 +26,7 @@ use Rattle.qx_machine.specs.Waiting.{holds, is_call, is_gone, manner_of, offered
 use Rattle.qx_isolation.proofs.Places.{row_at-set_other}
 use Rattle.qx_attr.proofs.CountLemmas.{count-same}
 use Rattle.qx_resources.proofs.WatchFacts.{IsEnough, IsStill, Stays, all-events, watch-settled}
+use Rattle.qx_machine.proofs.AtOnce.{call-by}
 use Rattle.qx_machine.proofs.Gives.{Gives, found-row, gives_done, gives_on}
 use Rattle.qx_resources.proofs.WatchQuiet.{IsQuiet, inode_of, quiet-over, pipe-falls, quiet-same, conditions_over}
 use Rattle.qx_resources.specs.Watching.{pipe_conditions, watch, watched_settled, watch_block, watch_place}
@@ -59,21 +60,26 @@ pipe-settled r inode moment after =
     (λ other apart. pipe-falls r s other (le_of_eq refl) (le_of_eq refl) (row_at-set_other r.pipes inode other (Some after.pipe) apart))
     (all-events (Stays r s) s.events.armed (λ event. refl)) (unarmed r s refl)
 
+call-settled : (r : Resources) (number : ℕ) (block : Ocb) (moment : ℕ) → row_at r.inodes.blocks number ≡ Some block → (pipe : Pipe WaitingCall) (after : PipeAfter WaitingCall) → IsSettledAt r number (deed_of_call r block.inode moment pipe after).state
+call-settled r number block moment is pipe after =
+    let settled = at-block r (deed_of_pipe r block.inode moment after).state number block is (pipe-settled r block.inode moment after) in
+    call-by (λ (deed : Deed Resources). IsSettledAt r number deed.state) r block.inode moment pipe after settled (λ nobody status bytes replied. settled)
+
 pub read_pipe-settled : (r : Resources) (over : Opened) (count : ℕ) → Gives (λ deed. IsSettledAt r over.number deed.state) (read_pipe r over count)
 read_pipe-settled r over count =
     gives_on _ (found (row_at r.inodes.blocks over.number) EBADF) _ (λ block is.
     gives_on _ (need (reads block.flags) EBADF) _ (λ reading may.
     gives_on _ (found (row_at r.pipes block.inode) EISDIR) _ (λ pipe here.
-    gives_done _ _ (at-block r _ over.number block (found-row _ _ block is) (pipe-settled r block.inode over.moment
-    (read wanted offered is_gone (manner_of (writers_of r.inodes block.inode) block over.is_asked) (waiting_call over count []) pipe))))))
+    gives_done _ _ (call-settled r over.number block over.moment (found-row _ _ block is) pipe
+    (read wanted offered is_gone (manner_of (writers_of r.inodes block.inode) block over.is_asked) (waiting_call over count []) pipe)))))
 
 pub write_pipe-settled : (r : Resources) (over : Opened) (bytes : List ℕ) → Gives (λ deed. IsSettledAt r over.number deed.state) (write_pipe r over bytes)
 write_pipe-settled r over bytes =
     gives_on _ (found (row_at r.inodes.blocks over.number) EBADF) _ (λ block is.
     gives_on _ (need (writes block.flags) EBADF) _ (λ writing may.
     gives_on _ (found (row_at r.pipes block.inode) EBADF) _ (λ pipe here.
-    gives_done _ _ (at-block r _ over.number block (found-row _ _ block is) (pipe-settled r block.inode over.moment
-    (write wanted offered is_gone (manner_of (readers_of r.inodes block.inode) block over.is_asked) (waiting_call over 0 bytes) pipe))))))
+    gives_done _ _ (call-settled r over.number block over.moment (found-row _ _ block is) pipe
+    (write wanted offered is_gone (manner_of (readers_of r.inodes block.inode) block over.is_asked) (waiting_call over 0 bytes) pipe)))))
 
 at-place : (r s : Resources) (place : Option ℕ) (inode : ℕ) → place ≡ Some inode → IsEnough r (watch r inode) s → IsEnough r (watch_place r place) s
 at-place r s place inode is settled lives = ap (λ (place : Option ℕ). watched_settled lives (watch_place r place) s) is ∙ settled lives

@@ -103,11 +103,6 @@ module _ (r : Resources) (no_stale : HasNoStalePipe r) (context : Context) where
 pub there-unstale : (r : Resources) → ((number : ℕ) (block : Ocb) → row_at r.inodes.blocks number ≡ Some block → IsSome (row_at r.inodes.attributes block.inode)) → HasNoStalePipe r
 there-unstale r there number block is none = absurd (no_value (row_at r.inodes.attributes block.inode) none (there number block is))
 
-pub counted-unstale : (r : Resources) (attrs : List (Option Attr)) → map attribute_of attrs ≡ r.inodes.attributes → AreCounted attrs r.inodes.blocks → HasNoStalePipe r
-counted-unstale r attrs same are number block is none =
-    absurd (has_inode attrs r.inodes.blocks number block are is
-    (none_before attribute_of attrs block.inode (λ attr gone. absurd (cc)) (ap (λ (rows : List (Option Attribute)). row_at rows block.inode) same ∙ none)))
-
 module _ (lives : ℕ → Bool) (r : Resources) where
   -- after a message, what was watched tells of each event that is due
   pub watched-settled : (context : Context) (given : Meaning) (deed : Deed Resources) → HasNoStalePipe r → deed_of r context given ≡ Ok deed → watched_settled lives (watched_over r given context.opened) deed.state ≡ events_settled lives r deed.state

@@ -1,8 +1,8 @@
 ghost use Rattle.std.specs.Prelude.{◌≡◌};
-ghost use Rattle.qx_machine.specs.Managers.{pipe_connect};
+ghost use Rattle.qx_machine.specs.Managers.{pipe_connect, pipe_io};
 ghost use Rattle.qx_machine.specs.Wants.{difference_wants_memory};
 ghost use Rattle.qx_pipes.specs.Pipes.{kind_with};
-ghost use Rattle.qx_resources.specs.Told.{done_at_once, manager_with, told_io};
+ghost use Rattle.qx_resources.specs.Told.{done_at_once, manager_with};
 
 use crate::resources::Resources;
 use crate::state::Told;
@@ -106,7 +106,7 @@ impl Connect<Resources, Tables, Told> for Pipe {
 impl Io<Resources, Tables, Told> for Pipe {
     ghost use Rattle.qx_resources.specs.inner.State.{IsCallerReceived};
 
-    ghost io = { λ manager. told_io (kind_with manager.device) };
+    ghost io = { λ manager. pipe_io (kind_with manager.device) };
 
     ghost wants = { λ manager. difference_wants_memory (manager_with manager.device) };
 

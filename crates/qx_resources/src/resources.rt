@@ -14,7 +14,7 @@ ghost use Rattle.qx_resources.specs.Boot.{kept_of};
 ghost use Rattle.qx_resources.specs.Mounts.{IsNextMount, with_new_root};
 ghost use Rattle.qx_resources.specs.Ranges.{IsInRanges};
 ghost use Rattle.qx_resources.specs.State.{HasUser, state, told};
-ghost use Rattle.qx_resources.specs.Told.{manager_with, told_by};
+ghost use Rattle.qx_resources.specs.Told.{manager_with};
 ghost use Rattle.qx_resources.specs.inner.State.{IsCallerReceived};
 ghost use Rattle.qx_resources.specs.declared.tables.Tables.{Tables as AllTables};
 ghost use Rattle.qx_shared.specs.Shared.{shared_after, state_after};
@@ -141,7 +141,7 @@ impl Resources {
         requires fits { HasUser self.old all.old }
         requires received { IfOk context.opened (λ o. IsCallerReceived self.old all.old o) }
         requires room { IsSome room.old }
-        ensures did { IfOk result (λ given. Did state self.old all.old self.new all.new reply.new given (told_by context.target.manager (told self.old all.old) context meaning.entry (deed_of (told self.old all.old) context meaning.entry))) }
+        ensures did { IfOk result (λ given. Did state self.old all.old self.new all.new reply.new given (deed_of (told self.old all.old) context meaning.entry)) }
         ensures room { IfOk result (λ given. HasRoomAfter room.old room.new given) }
         ensures err { OnErr result ((self.new ≡ self.old) × (all.new ≡ all.old) × (room.new ≡ room.old)) }
         ensures wanted { OnErr result (IsTrue (bytes_want_memory (told self.old all.old) context meaning.entry)) }

@@ -37,12 +37,12 @@ use Rattle.qx_machine.proofs.Living.{message-keeps}
 use Rattle.qx_process.proofs.RowLemmas.{set-row, with_row-none}
 use Rattle.qx_resources.specs.State.{told, Kept}
 use Rattle.qx_procs.specs.Calls.{after_or, spawn_outcome, spawned, with_prio}
-use Rattle.qx_chan.specs.Calls.{answer_of, queued_call}
+use Rattle.qx_chan.specs.Calls.{queued_call}
 use Rattle.qx_process.specs.Reads.{queued_in}
 use Rattle.qx_chan.specs.Channel.{Channel, after_asking, after_interrupt, after_ranking, after_send, after_spawn, after_taking, after_withdrawing, failed, interrupt_outcome, lists}
 use Rattle.qx_chan.specs.Sending.{HasMemory, after_call, call_target, sent_to, told_of}
 use Rattle.qx_chan.specs.Users.{prio_outcome_in, spawn_number_in, thread_row}
-use Rattle.qx_steps.specs.Reads.{row_among_parts}
+use Rattle.qx_machine.specs.Reads.{answer_of, row_among_parts}
 use Rattle.qx_steps.specs.inner.Parts.{parts_of, told_all, told_world, world_of, AreResourcesOf, IsSound}
 use Rattle.qx_steps.specs.Steps.{target_in}
 use Rattle.qx_chan.proofs.CallLemmas.{queued_is}

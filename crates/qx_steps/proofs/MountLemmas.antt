@@ -34,7 +34,7 @@ use Rattle.qx_resources.specs.State.{told, Kept}
 use Rattle.qx_chan.specs.Channel.{Channel, lists}
 use Rattle.qx_steps.specs.inner.Parts.{part_of, parts_of, told_all, world_of, AreResourcesOf, IsSound}
 use Rattle.qx_steps.specs.inner.Reads.{is_thread_ready}
-use Rattle.qx_steps.specs.Reads.{process_of_part, row_among_parts}
+use Rattle.qx_machine.specs.Reads.{process_of_part, row_among_parts}
 use Rattle.qx_steps.specs.inner.Steps.{after_mount, mount_from, mount_in, CanMount, IsMountable}
 use Rattle.qx_chan.proofs.RowReads.{option_cases, row_at-with_same}
 use Rattle.qx_steps.proofs.LeftLemmas.{AreLeft}

@@ -26,7 +26,7 @@ use Rattle.qx_chan.specs.Channel.{Channel, boot_channel, lists}
 use Rattle.qx_chan.specs.Users as users
 use Rattle.qx_chan.specs.Users.{no_processes}
 use Rattle.qx_steps.specs.inner.Parts.{part_of, parts_of, told_all, world_of, AreResourcesOf, SameUsers}
-use Rattle.qx_steps.specs.Reads.{process_among_parts, row_among_parts}
+use Rattle.qx_machine.specs.Reads.{process_among_parts, row_among_parts}
 
 pub no_resources : (processes : Option (List (Option Process))) → part_of processes None ≡ None
 no_resources None = refl

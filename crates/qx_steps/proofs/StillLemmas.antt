@@ -22,7 +22,8 @@ use Rattle.qx_isolation.specs.Rows.{with_row}
 use Rattle.qx_machine.specs.Settling.{processes_left}
 use Rattle.qx_procs.specs.Calls.{after_or, spawned, with_prio}
 use Rattle.qx_resources.specs.State.{told, Kept}
-use Rattle.qx_chan.specs.Calls.{answer_of, queued_call, unasked_call}
+use Rattle.qx_machine.specs.Reads.{answer_of}
+use Rattle.qx_chan.specs.Calls.{queued_call, unasked_call}
 use Rattle.qx_chan.specs.Channel.{Channel, after_asking, after_exit, after_interrupt, after_pulse, after_ranking, after_receive, after_send, after_spawn, after_taking, after_withdrawing, asked, channel_events, channel_line, channel_pipes, ended_in, failed, lists, readied, with_first_taken, with_pulse_taken, withdrawn}
 use Rattle.qx_chan.specs.declared.call.Call.{Call}
 use Rattle.qx_chan.specs.Users.{process_of, thread_row}
@@ -50,10 +51,6 @@ module _ (c : Channel) (ks : List (Option Kept)) (of : AreResourcesOf c ks) wher
 
   pub still-spawn : (limits : UserLimits) (user threads prio : ℕ) → AreResourcesOf (after_spawn limits c user threads prio) ks
   still-spawn limits user threads prio = of-users c (after_spawn limits c user threads prio) ks of (one user (λ processes. spawned processes threads prio (spawn_number limits processes threads prio))) refl
-
-  -- memory was refused once there was room for nodes
-  pub still-room : (room : ℕ) → AreResourcesOf (record c { room = room }) ks
-  still-room room = of-users c (record c { room = room }) ks of of.same refl
 
   pub still-ranking : (ceiling : ℕ) (thread : Thread) (prio : ℕ) → AreResourcesOf (after_ranking ceiling c thread prio) ks
   still-ranking ceiling thread prio = of-users c (after_ranking ceiling c thread prio) ks of (one thread.proc.user.0 (λ processes. after_or processes (with_prio ceiling processes thread.proc.num thread.tid prio))) refl

@@ -34,7 +34,7 @@ use Rattle.qx_steps.specs.declared.work.Work.TheVariants as work
 use Rattle.qx_steps.specs.inner.Held.{taken_by, taken_item}
 use Rattle.qx_steps.specs.inner.Parts.{parts_of, told_all, told_world, world_of, AreResourcesOf, IsSound}
 use Rattle.qx_steps.specs.Held.{bytes_or, held_work, received_bytes, work_of, IsReadFor}
-use Rattle.qx_steps.specs.Reads.{process_among_parts}
+use Rattle.qx_machine.specs.Reads.{process_among_parts}
 use Rattle.qx_chan.proofs.RowReads.{option_cases}
 use Rattle.qx_steps.proofs.LeftLemmas.{AreLeft, held-grows, left-held, left-thread}
 use Rattle.qx_steps.proofs.OwnerLemmas.{Owner, nobody, others_kept, owner, sound-step}

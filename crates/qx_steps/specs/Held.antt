@@ -13,7 +13,7 @@ use Rattle.qx_steps.specs.declared.work.Work.{Work}
 use Rattle.qx_steps.specs.declared.work.Work.TheVariants as work
 use Rattle.qx_steps.specs.declared.work.WorkRef.{WorkRef}
 use Rattle.qx_steps.specs.declared.work.WorkRef.TheVariants as lent
-use Rattle.qx_steps.specs.Reads.{process_among_parts}
+use Rattle.qx_machine.specs.Reads.{process_among_parts}
 
 abbrev pub bytes_or : Option Sent → Option (List ℕ) → Option (List ℕ)
 bytes_or None kept = kept

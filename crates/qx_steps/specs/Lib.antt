@@ -1,4 +1,3 @@
 pub mod Held
-pub mod Reads
 pub mod Steps
 pub mod inner

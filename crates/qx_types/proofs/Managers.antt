@@ -35,9 +35,6 @@ number_at (suc (suc number)) manager is = device_there (slice_get devices number
         let its = device_number_at number device here in
         ap manager_number (same_Some manager (Device device) (sym is)) ∙ (omega (arith, its))
 
-pub all_managers : length managers ≡ COUNT
-all_managers = refl
-
 pub number_below : (manager : Manager) → manager_number manager < COUNT
 number_below manager = slice_get_within managers (manager_number manager) manager (manager_at manager)
 

@@ -299,10 +299,6 @@ pub judged_where-unknown : (judges : Bool) → Unknown ≡ judged_where judges U
 judged_where-unknown true = refl
 judged_where-unknown false = refl
 
-pub judged_where-malformed : (judges : Bool) → Malformed ≡ judged_where judges Malformed
-judged_where-malformed true = refl
-judged_where-malformed false = refl
-
 -- what holds of a message holds of it where it is judged too
 pub judged_where-kept : (P : Message → Type 0) (judges : Bool) (c : Meaning) → IfKnown c P → IfKnown (judged_where judges c) P
 judged_where-kept P false c holds = holds

@@ -2,7 +2,6 @@
 
 use crate::same::first_thread;
 use crate::script::{config, ran};
-use qx_machine::Entry;
 use qx_types::{
     Bytes, Errno, Item, Manager, MessageBytes, NoMemory, OFlags, Outcome, Prio, Request, Step,
     User, Worker,

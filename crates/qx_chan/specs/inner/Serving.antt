@@ -13,7 +13,6 @@ use Rattle.qx_shared.specs.Shared.{with_pipes}
 use Rattle.qx_resmgr.specs.Deeds.{reply_with}
 use Rattle.qx_resmgr.specs.declared.functions.Done.{Done}
 use Rattle.qx_resources.specs.State.{told, Kept}
-use Rattle.qx_resources.specs.Told.{told_by}
 use Rattle.qx_resources.specs.declared.tables.Tables.{Tables}
 use Rattle.qx_chan.specs.declared.call.Call.{Call}
 
@@ -25,11 +24,6 @@ caller_of_call thread call = record { process = thread.proc.num; thread = thread
 abbrev pub deed_in : Kept → Tables → Process → Thread → Call → ℕ → List ℕ → Result (Deed Resources) Errno
 deed_in resources waits process thread call moment bytes =
     deed_of (told resources waits) (context_of process (caller_of_call thread call) call.target moment (meaning bytes)) (meaning bytes)
-
--- and how it is told
-abbrev pub told_in : Kept → Tables → Process → Thread → Call → ℕ → List ℕ → Result (Deed Resources) Errno
-told_in resources waits process thread call moment bytes =
-    told_by call.target.manager (told resources waits) (context_of process (caller_of_call thread call) call.target moment (meaning bytes)) (meaning bytes) (deed_in resources waits process thread call moment bytes)
 
 -- what a deed to a user's resources leaves, once the events that are due by it have given their pulses to the processes that live: its answers
 -- are on their way, and of the room for events nothing is said

@@ -24,7 +24,7 @@ abbrev pub count_to : Place → List Entry → ℕ
 count_to place [] = 0
 count_to place (entry ∷ entries) = if is_lt (place_cmp place entry.0) then 0 else suc (count_to place entries)
 
--- the child lists of all directories, one behind the other: the number of the list, none where there is no entry, and the nodes of the index
+-- the entries of all directories, one directory's behind another's: the number of the list, none where there is no entry, and the nodes of the index
 pub record Children : Type 0 where
   pub list : Option ℕ
   pub nodes : List ℕ

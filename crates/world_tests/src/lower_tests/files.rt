@@ -57,8 +57,8 @@ impl Bench {
     /// The user 1, with no file.
     fn new(alloc: Global) -> Result<Bench, AllocError> {
         Ok(Bench {
-            store: Store::boot(alloc, UserLimits::default(), User(1))?,
             reply: Reply::new(alloc)?,
+            store: Store::boot(alloc, UserLimits::default(), User(1))?,
             inode: 0,
         })
     }

@@ -226,9 +226,12 @@ const ATTRIBUTE: Attribute = Attribute {
     ctime: 5,
 };
 
-/// An inode and an open control block, each under the first number.
 fn numbered(alloc: Global) -> Result<bool, NoMemory> {
-    let mut inodes = Inodes::new(Limits::INODES, Limits::BLOCKS, alloc)?;
+    is_numbered(&mut Inodes::new(Limits::INODES, Limits::BLOCKS, alloc)?)
+}
+
+/// Whether a new inode and a new open control block are each under the first number.
+fn is_numbered(inodes: &mut Inodes) -> Result<bool, NoMemory> {
     let inode = inodes.new_inode(ATTRIBUTE)?;
     if inode != Ok(1) || inodes.attr(1).is_none() {
         return Ok(false);

@@ -153,10 +153,10 @@ impl Drop for Bench {
 impl Bench {
     fn new(alloc: Global) -> Result<Bench, NoMemory> {
         Ok(Bench {
-            kept: Kept::new(alloc, User(1))?,
-            events: AllEvents::new(alloc, 1)?,
             reply: Reply::new(alloc)?,
             room: Some(Room::new(alloc)?),
+            events: AllEvents::new(alloc, 1)?,
+            kept: Kept::new(alloc, User(1))?,
         })
     }
 

@@ -2,11 +2,10 @@ use Rattle.std.proofs.Common.{◌≡◌, ◌∙◌, ◌-◌, None, [], IsSome, i
 use Rattle.std.proofs.lemmas.List.{length-drop}
 use Rattle.qx_types.specs.declared.outcome.Answer.TheVariants.{Reply}
 use Rattle.qx_machine.specs.declared.rows.WaitingCall.{WaitingCall}
-use Rattle.qx_machine.specs.Pipes.{Pipe, PipeAfter, one_answered, with_reader}
+use Rattle.qx_machine.specs.Pipes.{Pipe, PipeAfter, one_answered, only_reply, with_reader}
 use Rattle.qx_machine.specs.Verdicts.{read_of}
 use Rattle.qx_machine.specs.Waiting.{waiting_call}
 use Rattle.qx_shared.specs.Shared.{pipe_at}
-use Rattle.qx_pipe.specs.Alone.{is_one_reply}
 use Rattle.qx_pipe.proofs.AfterLemmas.{same-bytes}
 use Rattle.qx_pipe.proofs.AloneLemmas.{IsNoReply, given-nothing, given-reply, left-same, left-told, none-by, read-is, read-nothing, read-open, read-over, read-stands, read-unended, told-alone, told-ended, told-silent}
 use Rattle.qx_pipe.proofs.TurnLemmas.{none-told, pipe-empty, pipe-gets, pipe-now}
@@ -37,7 +36,7 @@ returns-in_err-status-clause-otherwise c = none-by c.from_residual.result (λ _ 
     let nobody = c.anyone_waits.ensures.alone c.if-anyone_waits.false in
     let stand = (pipe_at c.read_device.new.self c.args.user.0 c.args.inode).bytes in
     let told = left-told c.read_device.result c.read_device.new.reply stand p.bytes (read_of p.device c.args.count p.bytes) c.read_device.ensures.left in
-    ap (λ (after : PipeAfter WaitingCall). is_one_reply after.answers) (read-is c.args.manner call p nobody)
+    ap (λ (after : PipeAfter WaitingCall). only_reply after.answers) (read-is c.args.manner call p nobody)
     ∙ told-silent c.args.manner call p (with_reader p call) nobody _ _ (read-unended c.args.manner call p (is_device (goal.at.returns-in_err-status-clause-otherwise c).Then-is_some)) (subst IsNoReply (sym told) (given-nothing c.read_device.result c.read_device.new.reply stand (sym c.gives.ensures ∙ c.in_err-status.was))))
 
 pub returns-in_err-status-clause-same : goal.returns-in_err-status-clause-same
@@ -82,7 +81,7 @@ returns-then-manner-clause-otherwise c = λ idle opened.
     let pipe = is_pipe (goal.at.returns-then-manner-clause-otherwise c).Else-is_some in
     let call = waiting_call opened c.args.count [] in
     let nobody = c.anyone_waits.ensures.alone c.if-anyone_waits.false in
-    ap (λ (after : PipeAfter WaitingCall). is_one_reply after.answers) (read-is c.args.manner call p nobody)
+    ap (λ (after : PipeAfter WaitingCall). only_reply after.answers) (read-is c.args.manner call p nobody)
     ∙ told-silent c.args.manner call p (with_reader p call) nobody _ _ (read-open c.args.manner call p pipe (omega arith) c.if-manner.true) (subst IsNoReply (sym (pipe-empty p pipe call (omega arith))) tt)
 
 pub returns-clause-told : goal.returns-clause-told

@@ -1,11 +1,10 @@
 use Rattle.std.proofs.Common.{◌≡◌, ◌∙◌, ◌+◌, None, [], ◌++◌, IsSome, is_some, length, length-append, sym, ap, subst, arith}
 use Rattle.qx_types.specs.declared.outcome.Answer.TheVariants.{Reply}
 use Rattle.qx_machine.specs.declared.rows.WaitingCall.{WaitingCall}
-use Rattle.qx_machine.specs.Pipes.{Pipe, PipeAfter, one_answered, with_writer}
+use Rattle.qx_machine.specs.Pipes.{Pipe, PipeAfter, one_answered, only_reply, with_writer}
 use Rattle.qx_machine.specs.Verdicts.{write_of}
 use Rattle.qx_machine.specs.Waiting.{waiting_call}
 use Rattle.qx_shared.specs.Shared.{pipe_at}
-use Rattle.qx_pipe.specs.Alone.{is_one_reply}
 use Rattle.qx_pipe.proofs.AfterLemmas.{same-bytes}
 use Rattle.qx_pipe.proofs.AloneLemmas.{IsNoReply, given-nothing, given-reply, left-same, left-told, none-by, told-alone, told-ended, told-silent, write-broken, write-is, write-nothing, write-open, write-unended}
 use Rattle.qx_pipe.proofs.TurnLemmas.{none-told, pipe-fits, pipe-full, pipe-now}
@@ -36,7 +35,7 @@ returns-in_err-status-clause-otherwise c = none-by c.from_residual.result (λ _ 
     let nobody = c.anyone_waits.ensures.alone c.if-anyone_waits.false in
     let stand = (pipe_at c.write_device.new.self c.args.user.0 c.args.inode).bytes in
     let told = left-told c.write_device.result [] stand p.bytes (write_of p.device c.args.bytes.now p.bytes) c.write_device.ensures.left in
-    ap (λ (after : PipeAfter WaitingCall). is_one_reply after.answers) (write-is c.args.manner call p nobody)
+    ap (λ (after : PipeAfter WaitingCall). only_reply after.answers) (write-is c.args.manner call p nobody)
     ∙ told-silent c.args.manner call p (with_writer p call) nobody _ _ (write-unended c.args.manner call p (is_device (goal.at.returns-in_err-status-clause-otherwise c).Then-is_some)) (subst IsNoReply (sym told) (given-nothing c.write_device.result [] stand (sym c.gives.ensures ∙ c.in_err-status.was))))
 
 pub returns-in_err-status-clause-same : goal.returns-in_err-status-clause-same
@@ -60,7 +59,7 @@ pub returns-then-not-manner-clause-otherwise : goal.returns-then-not-manner-clau
 returns-then-not-manner-clause-otherwise c = λ idle opened.
     let p = pipe_at c.args.shared.now c.args.user.0 c.args.inode in
     let call = waiting_call opened 0 c.args.bytes.now in
-    ap (λ (after : PipeAfter WaitingCall). is_one_reply after.answers) (write-is c.args.manner call p (c.anyone_waits.ensures.alone c.if-anyone_waits.false) ∙ told-ended c.args.manner call p (with_writer p call) _ _ _ (write-broken c.args.manner call p (is_pipe (goal.at.returns-then-not-manner-clause-otherwise c).Else-is_some) (omega arith) (grind arith)))
+    ap (λ (after : PipeAfter WaitingCall). only_reply after.answers) (write-is c.args.manner call p (c.anyone_waits.ensures.alone c.if-anyone_waits.false) ∙ told-ended c.args.manner call p (with_writer p call) _ _ _ (write-broken c.args.manner call p (is_pipe (goal.at.returns-then-not-manner-clause-otherwise c).Else-is_some) (omega arith) (grind arith)))
 
 pub returns-then-len-size-clause-otherwise : goal.returns-then-len-size-clause-otherwise
 returns-then-len-size-clause-otherwise c = λ idle opened.
@@ -68,7 +67,7 @@ returns-then-len-size-clause-otherwise c = λ idle opened.
     let pipe = is_pipe (goal.at.returns-then-len-size-clause-otherwise c).Else-is_some in
     let call = waiting_call opened 0 c.args.bytes.now in
     let nobody = c.anyone_waits.ensures.alone c.if-anyone_waits.false in
-    ap (λ (after : PipeAfter WaitingCall). is_one_reply after.answers) (write-is c.args.manner call p nobody)
+    ap (λ (after : PipeAfter WaitingCall). only_reply after.answers) (write-is c.args.manner call p nobody)
     ∙ told-silent c.args.manner call p (with_writer p call) nobody _ _ (write-open c.args.manner call p pipe (omega arith) (grind arith)) (subst IsNoReply (sym (pipe-full p pipe call (omega arith))) tt)
 
 pub returns-clause-told : goal.returns-clause-told

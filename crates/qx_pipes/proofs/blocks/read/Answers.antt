@@ -8,10 +8,9 @@ use Rattle.qx_pipes.proofs.PipesLemmas.{block-at, resized}
 use Rattle.qx_pipes.proofs.ToldLemmas.{Tells, read-meant, read-over, tells-later, tells-reply}
 use Rattle.qx_pipes.proofs.blocks.read.Goals as goal
 use Rattle.qx_pipes.specs.Pipes.{seen}
-use Rattle.qx_pipes.specs.Told.{told_alone}
 
 -- it is told its reply at once
-told : (c : goal.After-set_size) (r : Resources) → Tells c.args.store.now.stored c.set_size.new.self.stored c.args.shared.now c.read_alone.new.shared r (Some c.in-Some.told.status) c.read_alone.new.reply (told_alone (seen r c.args.store.now.stored c.args.shared.now) c.args.opened (machine.read_pipe (seen r c.args.store.now.stored c.args.shared.now) c.args.opened c.args.wanted))
+told : (c : goal.After-set_size) (r : Resources) → Tells c.args.store.now.stored c.set_size.new.self.stored c.args.shared.now c.read_alone.new.shared r (Some c.in-Some.told.status) c.read_alone.new.reply (machine.read_pipe (seen r c.args.store.now.stored c.args.shared.now) c.args.opened c.args.wanted)
 told c r =
     let store = c.args.store.now.stored in
     let shared = c.args.shared.now in
@@ -22,7 +21,7 @@ told c r =
     tells-reply store shared r c.args.opened block at.0 some _ _ c.requires.user (machine.read_pipe (seen r store shared) c.args.opened c.args.wanted) (read-over store shared c.args.opened block c.args.wanted) (read-meant store shared r c.args.opened block at.0 some c.args.wanted at.1) (waiting_call c.args.opened c.args.wanted []) c.in-Some.told.status c.read_alone.new.reply false did.idle (did.told c.args.opened) did.left refl (ap (λ (s : Store). s.stored) c.set_size.ensures.sized ∙ ap (λ size. resized block.inode (sized size false c.args.opened.moment) store) did.size)
 
 -- it is left without a reply
-later : (c : goal.After-set_size-2) (r : Resources) → Tells c.args.store.now.stored c.set_size-2.new.store.stored c.args.shared.now c.read-filled.new.shared r None [] (told_alone (seen r c.args.store.now.stored c.args.shared.now) c.args.opened (machine.read_pipe (seen r c.args.store.now.stored c.args.shared.now) c.args.opened c.args.wanted))
+later : (c : goal.After-set_size-2) (r : Resources) → Tells c.args.store.now.stored c.set_size-2.new.store.stored c.args.shared.now c.read-filled.new.shared r None [] (machine.read_pipe (seen r c.args.store.now.stored c.args.shared.now) c.args.opened c.args.wanted)
 later c r =
     let store = c.args.store.now.stored in
     let shared = c.args.shared.now in

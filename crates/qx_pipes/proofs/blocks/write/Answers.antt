@@ -8,11 +8,10 @@ use Rattle.qx_pipes.proofs.PipesLemmas.{block-at, resized}
 use Rattle.qx_pipes.proofs.ToldLemmas.{Tells, tells-later, tells-reply, went_in-one, write-meant, write-over}
 use Rattle.qx_pipes.proofs.blocks.write.Goals as goal
 use Rattle.qx_pipes.specs.Pipes.{seen}
-use Rattle.qx_pipes.specs.Told.{told_alone}
 use Rattle.qx_types.specs.declared.outcome.Answer.TheVariants.{Reply}
 
 -- it is told its reply at once
-told : (c : goal.After-set_size) (r : Resources) → Tells c.args.store.now.stored c.set_size.new.self.stored c.args.shared.now c.write_alone.new.shared r (Some c.in-Some.told.status) [] (told_alone (seen r c.args.store.now.stored c.args.shared.now) c.args.opened (machine.write_pipe (seen r c.args.store.now.stored c.args.shared.now) c.args.opened c.args.bytes.now))
+told : (c : goal.After-set_size) (r : Resources) → Tells c.args.store.now.stored c.set_size.new.self.stored c.args.shared.now c.write_alone.new.shared r (Some c.in-Some.told.status) [] (machine.write_pipe (seen r c.args.store.now.stored c.args.shared.now) c.args.opened c.args.bytes.now)
 told c r =
     let store = c.args.store.now.stored in
     let shared = c.args.shared.now in
@@ -23,7 +22,7 @@ told c r =
     tells-reply store shared r c.args.opened block at.0 some _ _ c.requires.user (machine.write_pipe (seen r store shared) c.args.opened c.args.bytes.now) (write-over store shared c.args.opened block c.args.bytes.now) (write-meant store shared r c.args.opened block at.0 some c.args.bytes.now at.1) (waiting_call c.args.opened 0 c.args.bytes.now) c.in-Some.told.status [] _ did.idle (did.told c.args.opened) did.left (c.is_filled-filled.ensures ∙ went_in-one (waiting_call c.args.opened 0 c.args.bytes.now) (Reply c.in-Some.told.status [])) (ap (λ (s : Store). s.stored) c.set_size.ensures.sized ∙ ap (λ size. resized block.inode (sized size c.is_filled-filled.result c.args.opened.moment) store) did.size)
 
 -- it is left without a reply
-later : (c : goal.After-set_size-2) (r : Resources) → Tells c.args.store.now.stored c.set_size-2.new.store.stored c.args.shared.now c.write-filled.new.shared r None [] (told_alone (seen r c.args.store.now.stored c.args.shared.now) c.args.opened (machine.write_pipe (seen r c.args.store.now.stored c.args.shared.now) c.args.opened c.args.bytes.now))
+later : (c : goal.After-set_size-2) (r : Resources) → Tells c.args.store.now.stored c.set_size-2.new.store.stored c.args.shared.now c.write-filled.new.shared r None [] (machine.write_pipe (seen r c.args.store.now.stored c.args.shared.now) c.args.opened c.args.bytes.now)
 later c r =
     let store = c.args.store.now.stored in
     let shared = c.args.shared.now in

@@ -1,5 +1,5 @@
 use Rattle.std.proofs.Common.{◌≡◌, ◌+◌, ◌-◌, ◌*◌, ◌∙◌, ap, rules, arith, Some}
-use Rattle.qx_steps.specs.Reads.{next_manager}
+use Rattle.qx_machine.specs.Reads.{next_manager}
 use Rattle.qx_play.specs.Play.{rounds, world_played}
 use Rattle.qx_play.proofs.Rounds.{round_done}
 use Rattle.qx_play.proofs.Serving.{keeps_all}

@@ -9,7 +9,7 @@ use Rattle.qx_resources.specs.State.{told}
 use Rattle.qx_chan.specs.Channel.{lists}
 use Rattle.qx_steps.specs.inner.Parts.{told_all, world_of}
 use Rattle.qx_steps.specs.inner.Reads.{is_thread_ready}
-use Rattle.qx_steps.specs.Reads.{row_among_parts}
+use Rattle.qx_machine.specs.Reads.{row_among_parts}
 use Rattle.qx_steps.specs.inner.Steps.{CanMount}
 use Rattle.qx_steps.proofs.MountLemmas.{nobody-mount, ready-mount, still_ok}
 use Rattle.qx_steps.proofs.PartsLemmas.{told-none, told-there}

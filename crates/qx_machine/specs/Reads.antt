@@ -4,12 +4,13 @@ use Rattle.qx_types.specs.Managers.{managers}
 use Rattle.qx_types.specs.declared.names.Manager.{Manager}
 use Rattle.qx_types.specs.declared.names.Proc.{Proc}
 use Rattle.qx_types.specs.declared.names.Thread.{Thread}
+use Rattle.qx_types.specs.declared.outcome.Answer.{Answer}
+use Rattle.qx_machine.specs.Clients.{answer_in}
 use Rattle.qx_machine.specs.declared.rows.ThreadRow.{ThreadRow}
 use Rattle.qx_machine.specs.Machine.{World, line_of}
 use Rattle.qx_machine.specs.Parts.{Part, thread_of}
 use Rattle.qx_machine.specs.Processes.{Process}
 use Rattle.qx_isolation.specs.Rows.{row_at}
-use Rattle.qx_chan.specs.Calls.{answer_of}
 
 abbrev pub process_of_part : ℕ → Option Part → Option Process
 process_of_part number None = None
@@ -22,6 +23,11 @@ process_among_parts parts proc = process_of_part proc.num (row_at parts proc.use
 -- a thread's row among the rows of all users
 abbrev pub row_among_parts : List (Option Part) → Thread → Option ThreadRow
 row_among_parts parts thread = thread_of thread.tid (process_among_parts parts thread.proc)
+
+-- the answer that a thread has and has not taken
+abbrev pub answer_of : Option ThreadRow → Option Answer
+answer_of None = None
+answer_of (Some row) = answer_in row.state
 
 abbrev pub is_thread_answered : Option ThreadRow → Bool
 is_thread_answered row = is_some (answer_of row)
