@@ -1,5 +1,5 @@
-//! Tests of the crates below the channel, of a traced world and of worker threads through their public calls, and an example
-//! of a caller of a trace (`docs/CALLING.md`).
+//! Tests of the crates below the channel, of a traced world, of worker threads and of the shell through their public calls,
+//! and an example of a caller of a trace (`docs/CALLING.md`).
 //!
 //! - `script.rt`, `same.rt`: the tests' steps, from lines of a script; two traces compared by all that can be seen of
 //!   them
@@ -9,11 +9,13 @@
 //! - `calling.rt`, `asked.rt`: the example, a request that is taken from its call to its answer; its test
 //! - `pool.rt`: worker threads round one lock
 //! - `lower_tests.rt`: what is below the channel
+//! - `shell.rt`: the shell's edge
 #![tactic(auto)]
 
 #[cfg(test)]
 mod asked;
-pub mod calling;
+#[cfg(test)]
+mod calling;
 #[cfg(test)]
 mod lower_tests;
 #[cfg(test)]
@@ -30,3 +32,5 @@ mod rows;
 mod same;
 #[cfg(test)]
 mod script;
+#[cfg(test)]
+mod shell;

@@ -1,6 +1,6 @@
 //! The whole shell, from the words of the command line to its exit status.
 
-use crate::tests::streams::{FailingFlush, FailingWriter, SCRIPT, SHOWN, kept};
+use crate::shell::streams::{FailingFlush, FailingWriter, SCRIPT, SHOWN, kept};
 use qx_sh::invocation::invoke;
 use qx_sh::watched::Watched;
 use std::alloc::{AllocError, Global};

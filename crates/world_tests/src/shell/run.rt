@@ -1,6 +1,6 @@
 //! How a run ends, with readers and writers that fail.
 
-use crate::tests::streams::{FailingFlush, FailingReader, FailingWriter, SCRIPT, SHOWN, kept};
+use crate::shell::streams::{FailingFlush, FailingReader, FailingWriter, SCRIPT, SHOWN, kept};
 use qx_sh::ending::End;
 use qx_sh::limit::Options;
 use qx_sh::run::run;

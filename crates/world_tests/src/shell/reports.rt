@@ -1,6 +1,6 @@
 //! The line that tells an end, and its status.
 
-use crate::tests::streams::{FailingWriter, kept};
+use crate::shell::streams::{FailingWriter, kept};
 use qx_sh::ending::{End, report};
 use qx_sh::watched::Watched;
 use std::io::ErrorKind;
