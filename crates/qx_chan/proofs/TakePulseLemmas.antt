@@ -1,5 +1,5 @@
 -- A process takes its first pulse.
-use Rattle.std.proofs.Common.{◌≡◌, ◌<◌, inl, inr, ℕ, List, [], ◌∷◌, Option, Some, None, drop, length, refl, set, slice_get, ◌∙◌, ap}
+use Rattle.std.proofs.Common.{◌≡◌, ◌<◌, inl, inr, ℕ, List, [], ◌∷◌, Option, Some, None, drop, is_some, not, length, refl, set, slice_get, ◌∙◌, ap}
 use Rattle.std.proofs.lemmas.List.{set-get_or}
 use Rattle.std.proofs.lemmas.Option.{unwrap_or-slice_get}
 use Rattle.qx_types.specs.declared.names.Proc.{Proc}
@@ -10,7 +10,7 @@ use Rattle.qx_machine.specs.Processes.{Process, living}
 use Rattle.qx_isolation.specs.Rows.{row_at}
 use Rattle.qx_notify.specs.Events.{AllEvents, events_of, with_events}
 use Rattle.qx_resources.specs.declared.tables.Tables.{Tables}
-use Rattle.qx_chan.specs.Channel.{after_pulse, with_pulse_taken}
+use Rattle.qx_chan.specs.Channel.{after_pulse, is_no_pulse, pulse_outcome, with_pulse_taken}
 use Rattle.qx_chan.specs.inner.Kept.{AllStandTogether}
 use Rattle.qx_chan.specs.Users.{Users, process_of}
 use Rattle.qx_chan.proofs.RowReads.{option_cases, row_within}
@@ -22,6 +22,11 @@ has-events users w proc process is kept = elim (option_cases (row_at users proc.
   | inl none ↦ let clash : Some process ≡ None = rw none at is in absurd (cc)
   | inr rows ↦ rw (kept.events, kept.shared.users) (row_within users proc.user.0 rows.0 rows.1)
 ]
+
+-- a process that is there is told that it has no pulse just where none is the first
+pub no-pulse : (process : Process) (first : Option Pulse) → not (is_some first) ≡ is_no_pulse (pulse_outcome (Some process) first)
+no-pulse process None = refl
+no-pulse process (Some first) = refl
 
 -- where there is none, nothing goes
 none_goes : (queue : List Pulse) → slice_get queue 0 ≡ None → drop 1 queue ≡ queue

@@ -1,5 +1,5 @@
 -- What contracts see of a channel, and what its calls make of it.
-use Rattle.std.specs.Prelude.{⊤, ℕ, ◌+◌, [], ◌∷◌, ◌++◌, List, Option, Some, None, drop, get_or, if◌then◌else◌, is_some, length, map, option_map, replicate, slice_get, slice_set}
+use Rattle.std.specs.Prelude.{⊤, ℕ, Bool, true, false, ◌+◌, [], ◌∷◌, ◌++◌, List, Option, Some, None, drop, get_or, if◌then◌else◌, is_some, length, map, option_map, replicate, slice_get, slice_set}
 use Rattle.qx_types.specs.UserLimits.{UserLimits}
 use Rattle.qx_types.specs.Configuration.{Configuration}
 use Rattle.qx_types.specs.Managers.{manager_number}
@@ -161,6 +161,11 @@ abbrev pub pulse_outcome : Option Process → Option Pulse → Outcome
 pulse_outcome None first = WrongState
 pulse_outcome (Some process) None = NoPulse
 pulse_outcome (Some process) (Some first) = PulseGiven first.code first.value
+
+-- a process is told that it has no pulse
+abbrev pub is_no_pulse : Outcome → Bool
+is_no_pulse NoPulse = true
+is_no_pulse _ = false
 
 abbrev pub with_pulse_taken : Channel → Proc → Option Process → Option Pulse → Channel
 with_pulse_taken c proc (Some process) (Some first) = record c { events = slice_set c.events proc.user.0 (without_first_pulse proc.num (channel_events c proc.user.0)) }

@@ -14,7 +14,7 @@ ghost use Rattle.qx_queues.specs.Queues.{stands};
 ghost use Rattle.qx_shared.specs.Shared.{HasNoCall, has_thread, shared_line};
 ghost use Rattle.qx_chan.specs.Calls.{queued_call, unasked_call};
 ghost use Rattle.qx_machine.specs.Reads.{answer_of};
-ghost use Rattle.qx_chan.specs.Channel.{IsExisting, after_asking, after_interrupt, after_pulse, after_ranking, after_receive, after_spawn, after_taking, after_withdrawing, channel_events, channel_line, boot_channel, interrupt_outcome, pulse_outcome};
+ghost use Rattle.qx_chan.specs.Channel.{IsExisting, after_asking, after_interrupt, after_pulse, after_ranking, after_receive, after_spawn, after_taking, after_withdrawing, channel_events, channel_line, boot_channel, interrupt_outcome, is_no_pulse, pulse_outcome};
 ghost use Rattle.qx_chan.specs.Nodes.{room_for};
 ghost use Rattle.qx_chan.specs.Sending.{HasMemory, after_call, call_target, kept_after, told_of};
 ghost use Rattle.qx_chan.specs.Users.{UsesAt, prio_outcome_in, process_of, spawn_number_in, thread_row};
@@ -287,6 +287,16 @@ impl Channel {
         match self.tables.events.take_pulse(proc) {
             Some(pulse) => Outcome::Pulse(pulse.code, pulse.value),
             None => Outcome::NoPulse,
+        }
+    }
+
+    /// Whether a process that takes a pulse is told that it has none: it is there, and has not ended.
+    pub fn lacks_pulse(&self, proc: Proc) -> bool
+        ensures { result ≡ is_no_pulse (pulse_outcome (living (process_of self.now.users proc)) (first_pulse proc.num (channel_events self.now proc.user.0))) }
+    {
+        match self.users.living(proc) {
+            Some(_) => !self.tables.events.has_pulse(proc),
+            None => false,
         }
     }
 

@@ -1,6 +1,6 @@
 //! Messages and unblock pulses, as a worker performs them.
 
-ghost use Rattle.std.specs.Prelude.{◌≡◌, false, Ok, Option, Some, IfSome, IsFalse, IsOk, IsSome, None, OnErr, OnOk, vec_capacity};
+ghost use Rattle.std.specs.Prelude.{◌≡◌, false, Ok, Option, Some, IfOk, IfSome, IsFalse, IsOk, IsSome, IsTrue, None, OnErr, OnOk, vec_capacity};
 ghost use Rattle.std.specs.Option.{option_copied};
 ghost use Rattle.qx_bytes.specs.Memory.{Leave};
 ghost use Rattle.qx_types.specs.Managers.{manager_number};
@@ -41,8 +41,8 @@ impl Channel {
     /// The message of a thread, which was received, is served by its manager at a moment, and answered, unless its call is to
     /// wait; so are the calls that waited and can be answered then (Writing a Resource Manager: `dispatch_handler`; C Library
     /// Reference: `MsgReply`, `MsgError`). An unblock pulse of a call that is answered is in its line no more, and the user's
-    /// events that are due give their pulses (`iofunc_notify_trigger`). Nothing happens to a thread with no such message. The
-    /// bytes may have been read before; more than a few leave their memory for others.
+    /// events that are due give their pulses (`iofunc_notify_trigger`). Nothing happens to a thread with no such message; tells
+    /// whether there was one. The bytes may have been read before; more than a few leave their memory for others.
     #[tactic(auto, using(crate::proofs::ProcessLemmas::puts_back))]
     #[inline(always)]
     pub fn serve(
@@ -53,10 +53,11 @@ impl Channel {
         moment: u64,
         reply: &mut Reply,
         memory: &mut Vec<u8>,
-    ) -> Result<(), AllocError>
+    ) -> Result<bool, AllocError>
         requires user { resources.old.user ≡ thread.proc.user.0 }
         requires read { IsReadOf (option_copied read) (taken_of (thread_row self.old.users thread)) }
         ensures ok { OnOk result (Serves self.old self.new resources.old resources.new (λ part. settled part (or_kept part (serve_message part thread.proc.num thread.tid moment)))) }
+        ensures served { IfOk result (λ served. IsTrue served → IsSome (thread_row self.old.users thread)) }
         ensures room { OnOk result (self.new.room ≡ self.old.room) }
         ensures err { OnErr result ((self.new ≡ self.old) × (resources.new ≡ resources.old)) }
         ensures sure { IsFalse (thread_wants_memory (part_in self.old resources.old) thread.proc.num thread.tid moment) → IsOk result }
@@ -93,7 +94,7 @@ impl Channel {
         );
         resources.trigger(tables, processes, watched);
         give_answers(&mut self.users, &mut tables.shared);
-        Ok(())
+        Ok(true)
     }
 
     /// A call of a thread is asked to unblock by the pulse that a worker performs: if it waits in a pipe, it is answered, and
@@ -227,8 +228,8 @@ fn meaning_of<'a>(bytes: &'a MessageBytes, read: Option<&'a Parsed>) -> Meaning<
 /// Nothing is served. Told to be seldom, so that the compiler puts in place what comes behind.
 #[cold]
 #[inline(never)]
-fn nothing() -> Result<(), AllocError>
-    ensures { result ≡ Ok tt }
+fn nothing() -> Result<bool, AllocError>
+    ensures { result ≡ Ok false }
 {
-    Ok(())
+    Ok(false)
 }

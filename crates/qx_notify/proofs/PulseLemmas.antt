@@ -1,5 +1,5 @@
 -- Pulses are taken.
-use Rattle.std.proofs.Common.{◌≡◌, ◌+◌, ◌-◌, ◌<◌, ◌≤◌, ℕ, suc, nat_eq, List, [], ◌∷◌, Contains, Some, None, drop, length, map, get_or, option_map, set, slice_get, unwrap_or, refl, sym, ◌∙◌, ap, arith}
+use Rattle.std.proofs.Common.{◌≡◌, ◌+◌, ◌-◌, ◌<◌, ◌≤◌, ℕ, suc, nat_eq, List, [], ◌∷◌, Contains, Option, Some, None, drop, is_some, length, map, get_or, option_map, set, slice_get, unwrap_or, refl, sym, ◌∙◌, ap, arith}
 use Rattle.std.specs.List.{IsDistinct}
 use Rattle.std.proofs.lemmas.List.{drop-map, length-map, set-get_or}
 use Rattle.std.proofs.lemmas.Option.{slice_get-map, slice_get_within}
@@ -71,6 +71,10 @@ module _ (t : Table Event) (all : List EventLists) (counts : List ℕ) (kept : K
       let pulses : before.pulses ≡ (without_first_pulse process before).pulses = sym (set-get_or before.pulses process []) ∙ ap (set before.pulses process) (sym (line_at-get before.pulses process) ∙ empty ∙ ap (drop 1) (sym empty)) in
       let same : before ≡ without_first_pulse process before = λ i. record { armed = before.armed; pulses = pulses i } in
       became-same t all user within ∙ ap (became t all user) same ∙ sym (with-told t all user within (without_first_pulse process))
+
+pub any-pulse : {A B : Type 0} (f : A → B) (first : Option A) → is_some first ≡ is_some (option_map f first)
+any-pulse f None = refl
+any-pulse f (Some first) = refl
 
 -- the list of a process' pulses, as a call finds it
 pub record QueueList (t : Table Event) (all : List EventLists) (user process list : ℕ) : Type 0 where

@@ -1,6 +1,6 @@
 //! The armed events and the untaken pulses of all users, in lists over one table.
 
-ghost use Rattle.std.specs.Prelude.{◌≡◌, ◌==◌, ◌+◌, ◌<◌, ◌≤◌, ◌&&◌, not, ℕ, IfOk, IsFalse, IsOk, OnErr, OnOk, length, max};
+ghost use Rattle.std.specs.Prelude.{◌≡◌, ◌==◌, ◌+◌, ◌<◌, ◌≤◌, ◌&&◌, not, ℕ, IfOk, IsFalse, IsOk, OnErr, OnOk, is_some, length, max};
 ghost use Rattle.qx_types.specs.declared.limits.TheConstants.Limits.{EVENTS, PROCESSES};
 ghost use Rattle.qx_machine.specs.Events as machine;
 ghost use Rattle.qx_notify.specs.Events.{AreLimited, arms_event, armed_outcome, events_after, events_of, nothing_armed, status_given, notified_after, wants_node, with_events};
@@ -222,6 +222,15 @@ impl AllEvents {
             code: event.code,
             value: number_of(event.value),
         })
+    }
+
+    /// Whether a process has untaken pulses.
+    pub fn has_pulse(&self, proc: Proc) -> bool
+        requires user { proc.user.0 < length self.now.events }
+        requires process { proc.num ≤ PROCESSES }
+        ensures { result ≡ is_some (machine.first_pulse proc.num (events_of self.now proc.user.0)) }
+    {
+        qx_uncounted::first(&self.table, pulses_of(&self.lists, proc)).is_some()
     }
 
     /// A process' untaken pulses go, as the process does.

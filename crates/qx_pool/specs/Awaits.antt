@@ -1,11 +1,13 @@
--- What threads wait for, in the machine's words.
-use Rattle.std.specs.Prelude.{Bool, is_some, not}
+-- What threads wait for, and which worker is woken, in the machine's words.
+use Rattle.std.specs.Prelude.{◌==◌, ℕ, Bool, if◌then◌else◌, is_some, not}
 use Rattle.qx_types.specs.declared.names.Thread.{Thread}
 use Rattle.qx_machine.specs.Machine.{World}
 use Rattle.qx_process.specs.Reads.{is_thread_blocked}
 use Rattle.qx_machine.specs.Reads.{next_manager, row_among_parts}
 use Rattle.qx_pool.specs.declared.waits.Awaited.{Awaited}
 use Rattle.qx_pool.specs.declared.waits.Awaited.TheVariants.{Answer, Item}
+use Rattle.qx_pool.specs.declared.waits.Woken.{Woken}
+use Rattle.qx_pool.specs.declared.waits.Woken.TheVariants.{Looking, Nobody, Sleeping}
 
 -- the thread waits for an answer
 abbrev pub is_blocked : World → Thread → Bool
@@ -15,3 +17,7 @@ is_blocked w thread = is_thread_blocked (row_among_parts w.parts thread)
 abbrev pub is_to_come : World → Awaited → Bool
 is_to_come w Item = not (is_some (next_manager w))
 is_to_come w (Answer thread) = is_blocked w thread
+
+-- which worker an item in a line wakes, where so many workers look for one
+abbrev pub woken : World → ℕ → Woken
+woken w looking = if is_to_come w Item then Nobody else if looking == 0 then Sleeping else Looking

@@ -78,7 +78,7 @@ impl<L: Ledger> Client<L> {
             return CallEnd::Stopped;
         }
         let called = guard.take(&mut self.seat, Step::Call { thread, request });
-        let left = guard.world().next_manager();
+        let woken = guard.woken();
         drop(guard);
         let Ok(outcome) = called else {
             return CallEnd::NoMemory;
@@ -86,7 +86,7 @@ impl<L: Ledger> Client<L> {
         if !is_sent(&outcome) {
             return end_of(outcome);
         }
-        server.wake_worker(left);
+        server.wake_worker(woken);
         let mut guard = server.lock_for(rt, &mut self.spinner, Awaited::Answer(thread));
         if guard.world().blocked(thread) {
             return CallEnd::Stopped;
@@ -114,12 +114,12 @@ impl<L: Ledger> Client<L> {
         let mut guard = server.lock(rt);
         let result = guard.take(&mut self.seat, step);
         let released = user.map(|user| guard.released(user));
-        let left = guard.world().next_manager();
+        let woken = guard.woken();
         drop(guard);
         if let Some(released) = released {
             server.wake_clients(released);
         }
-        server.wake_worker(left);
+        server.wake_worker(woken);
         result
     }
 }

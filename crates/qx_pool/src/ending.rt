@@ -37,6 +37,7 @@ pub fn finish<L: Ledger>(
     let Server {
         locked,
         items: _,
+        looks: _,
         answers: _,
         made: _,
     } = server;

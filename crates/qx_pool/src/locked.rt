@@ -1,13 +1,13 @@
 //! What lies under the lock of a server, and the steps that are taken there.
 
-ghost use Rattle.std.specs.Prelude.{◌≡◌, ◌≢◌, ◌≤◌, ◌<◌, ◌+◌, ◌++◌, ◌∷◌, ◌==◌, ◌&&◌, [], true, not, length, map, sum_by, vec_len, vec_capacity, IfOk, IfErr, OnOk, IsErrOf, MatchBool, is_ok};
+ghost use Rattle.std.specs.Prelude.{◌≡◌, ◌≢◌, ◌≤◌, ◌<◌, ◌+◌, ◌-◌, ◌++◌, ◌∷◌, ◌==◌, ◌&&◌, [], true, not, length, map, sum_by, vec_len, vec_capacity, IfOk, IfErr, OnOk, IsErrOf, MatchBool, is_ok};
 ghost use Rattle.qx_types.specs.declared.names.Thread.{Thread};
 ghost use Rattle.qx_types.specs.declared.outcome.Outcome.{Outcome};
 ghost use Rattle.qx_types.specs.declared.step.Step.{Step};
 ghost use Rattle.qx_steps.specs.Held.{held_work, IsStale};
 ghost use Rattle.qx_steps.specs.declared.work.PerformFault.{PerformFault};
 ghost use Rattle.qx_world.specs.Trace.{IsAfter, IsLast, outcome_now, run_of};
-ghost use Rattle.qx_pool.specs.Awaits.{is_blocked, is_to_come};
+ghost use Rattle.qx_pool.specs.Awaits.{is_blocked, is_to_come, woken};
 ghost use Rattle.qx_pool.specs.Notes.{AddsOf, Agrees, notes_after, note};
 ghost use Rattle.qx_pool.specs.Waits.{IsPossible, is_awaited, is_in};
 ghost use Rattle.qx_pool.specs.declared.waits.Awaited.{Awaited};
@@ -16,7 +16,7 @@ ghost use Rattle.qx_pool.specs.inner.Copies.{AreCopies};
 use crate::agreement::agree;
 use crate::copies::{answers, both};
 use crate::seat::{Note, Seat};
-use crate::waits::{Awaited, ThreadSet, Waits};
+use crate::waits::{Awaited, ThreadSet, Waits, Woken};
 use qx_types::{
     Config, Item, Manager, MessageBytes, NoMemory, Outcome, Step, Thread, User, Worker,
 };
@@ -34,6 +34,8 @@ pub(crate) struct Locked<L: Ledger> {
     /// For each step a place in which the end marks that it was noted.
     marks: Vec<bool>,
     waits: Waits,
+    /// How many workers look for an item without the lock. Each looks under it once more before it sleeps.
+    looking: u32,
     is_stopped: bool,
     ghost no_parts: { remainder.parts ≡ 0 },
     ghost no_amount: { remainder.amount ≡ 0 },
@@ -69,6 +71,7 @@ impl<L: Ledger> Locked<L> {
             remainder,
             marks: Vec::new(alloc),
             waits: Waits::new(),
+            looking: 0,
             is_stopped: false,
         })
     }
@@ -81,6 +84,7 @@ impl<L: Ledger> Locked<L> {
         ensures noted { seat.new.notes.items ≡ notes_after seat.old.notes.items self.old.traced step (is_ok result) }
         ensures handed_back { IfErr result (λ unstored. unstored.step ≡ step) }
         ensures waits { self.new.waits ≡ self.old.waits }
+        ensures looking { self.new.looking ≡ self.old.looking }
         ensures stopped { self.new.is_stopped ≡ self.old.is_stopped }
     {
         let Locked {
@@ -89,6 +93,7 @@ impl<L: Ledger> Locked<L> {
             remainder: _,
             marks,
             waits: _,
+            looking: _,
             is_stopped: _,
         } = self;
         if make_room(marks, seat).is_err() {
@@ -118,6 +123,7 @@ impl<L: Ledger> Locked<L> {
         ensures noted { seat.new.notes.items ≡ notes_after seat.old.notes.items self.old.traced (Step.Perform worker moment) (is_ok result) }
         ensures stale { IsErrOf result PerformFault.Stale → IsStale (held_work (run_of self.old.traced).world worker.0) work.now }
         ensures waits { self.new.waits ≡ self.old.waits }
+        ensures looking { self.new.looking ≡ self.old.looking }
         ensures stopped { self.new.is_stopped ≡ self.old.is_stopped }
     {
         let Locked {
@@ -126,6 +132,7 @@ impl<L: Ledger> Locked<L> {
             remainder: _,
             marks,
             waits: _,
+            looking: _,
             is_stopped: _,
         } = self;
         if make_room(marks, seat).is_err() {
@@ -146,6 +153,7 @@ impl<L: Ledger> Locked<L> {
     ) -> Result<Option<(Item, HeldCopy)>, NoMemory>
         ensures notes { AddsOf worker.0 seat.old.notes.items seat.new.notes.items }
         ensures waits { self.new.waits ≡ self.old.waits }
+        ensures looking { self.new.looking ≡ self.old.looking }
         ensures stopped { self.new.is_stopped ≡ self.old.is_stopped }
     {
         match self.take(seat, Step::Receive { worker, manager }) {
@@ -181,6 +189,7 @@ impl<L: Ledger> Locked<L> {
         ensures marked { (thread : Thread) → awaited ≡ Awaited.Answer thread → result ≡ true → is_awaited self.new.waits thread ≡ true }
         ensures others { (thread : Thread) → is_awaited self.old.waits thread ≡ true → is_awaited self.new.waits thread ≡ true }
         ensures traced { self.new.traced ≡ self.old.traced }
+        ensures looking { self.new.looking ≡ self.old.looking }
         ensures stopped { self.new.is_stopped ≡ self.old.is_stopped }
     {
         if self.is_stopped {
@@ -198,11 +207,45 @@ impl<L: Ledger> Locked<L> {
         }
     }
 
+    /// One worker more looks for an item, without the lock.
+    pub(crate) fn start_looking(&mut self)
+        ensures some { self.new.looking ≢ 0 }
+        ensures waits { self.new.waits ≡ self.old.waits }
+        ensures traced { self.new.traced ≡ self.old.traced }
+        ensures stopped { self.new.is_stopped ≡ self.old.is_stopped }
+    {
+        self.looking = self.looking.saturating_add(1);
+    }
+
+    /// One that looked for an item has the lock again.
+    pub(crate) fn stop_looking(&mut self)
+        ensures looking { self.new.looking ≡ self.old.looking - 1 }
+        ensures waits { self.new.waits ≡ self.old.waits }
+        ensures traced { self.new.traced ≡ self.old.traced }
+        ensures stopped { self.new.is_stopped ≡ self.old.is_stopped }
+    {
+        self.looking = self.looking.saturating_sub(1);
+    }
+
+    /// Which worker is woken as the lock is let go: one if an item stands in a line, and one that sleeps only if none looks.
+    pub(crate) fn woken(&self) -> Woken
+        ensures { result ≡ woken (run_of self.now.traced).world self.now.looking }
+    {
+        if self.world().next_manager().is_none() {
+            Woken::Nobody
+        } else if self.looking == 0 {
+            Woken::Sleeping
+        } else {
+            Woken::Looking
+        }
+    }
+
     /// The threads of a user that clients wait for and that wait for no answer. Clients wait for them no longer.
     pub(crate) fn released(&mut self, user: User) -> ThreadSet
         ensures told { (thread : Thread) → IsPossible thread → is_in result thread ≡ ((thread.proc.user.0 == user.0) && is_awaited self.old.waits thread && not (is_blocked (run_of self.old.traced).world thread)) }
         ensures waits { (thread : Thread) → is_awaited self.new.waits thread ≡ (is_awaited self.old.waits thread && not (is_in result thread)) }
         ensures traced { self.new.traced ≡ self.old.traced }
+        ensures looking { self.new.looking ≡ self.old.looking }
         ensures stopped { self.new.is_stopped ≡ self.old.is_stopped }
     {
         let mut waiting = self.waits.of(user);
@@ -220,6 +263,7 @@ impl<L: Ledger> Locked<L> {
     pub(crate) fn stop(&mut self)
         ensures stopped { self.new.is_stopped ≡ true }
         ensures waits { self.new.waits ≡ self.old.waits }
+        ensures looking { self.new.looking ≡ self.old.looking }
         ensures traced { self.new.traced ≡ self.old.traced }
     {
         self.is_stopped = true;
@@ -252,6 +296,7 @@ impl<L: Ledger> Locked<L> {
             mut remainder,
             mut marks,
             waits: _,
+            looking: _,
             is_stopped: _,
         } = self;
         audit(&mut book, &mut seats, &mut remainder);

@@ -5,9 +5,9 @@ ghost use Rattle.qx_pool.specs.declared.waits.TheConstants.{THREADS};
 
 use crate::locked::Locked;
 use crate::seat::Seat;
-use crate::spinner::Spinner;
-use crate::waits::{Awaited, THREADS, ThreadSet, place_of};
-use qx_types::{Config, Manager, NoMemory};
+use crate::spinner::{Spinner, spin};
+use crate::waits::{Awaited, THREADS, ThreadSet, Woken, place_of};
+use qx_types::{Config, NoMemory};
 use std::alloc::{AllocError, Global};
 use std::marker::Model;
 use std::sync::ledger::{Blank, Ledger, Share};
@@ -19,6 +19,8 @@ pub struct Server<L: Ledger> {
     pub(crate) locked: Mutex<Locked<L>>,
     /// Where workers sleep until an item stands in a line.
     pub(crate) items: Condvar,
+    /// What workers watch who look for an item before they sleep. No thread sleeps there.
+    pub(crate) looks: Condvar,
     /// Where clients sleep until a thread waits for no answer, for each thread one.
     pub(crate) answers: Vec<Condvar>,
     /// How many seats were made.
@@ -61,6 +63,7 @@ impl<L: Ledger> Server<L> {
         let server = Server {
             locked: Mutex::new(Locked::new(alloc, config, book, all)?),
             items: Condvar::new(),
+            looks: Condvar::new(),
             answers: condvars(alloc)?,
             made: seats.len(),
         };
@@ -74,6 +77,7 @@ impl<L: Ledger> Server<L> {
         guard.stop();
         drop(guard);
         self.items.notify_all();
+        self.looks.notify_all();
         for bell in &self.answers {
             bell.notify_all();
         }
@@ -91,21 +95,54 @@ impl<L: Ledger> Server<L> {
         spinner: &mut Spinner,
         awaited: Awaited,
     ) -> MutexGuard<'_, Locked<L>> {
-        let bell = self.bell(awaited);
         let mut guard = self.lock(rt);
-        if guard.waits_for(awaited) {
-            let seen = bell.notifications();
-            drop(guard);
-            spinner.spin(bell, seen);
-            guard = self.lock(rt);
+        if !guard.waits_for(awaited) {
+            return guard;
         }
+        if spinner.begin() {
+            guard = self.spin(rt, guard, awaited);
+            if !guard.waits_for(awaited) {
+                spinner.paid();
+                return guard;
+            }
+        }
+        let bell = self.bell(awaited);
         bell.wait_while(rt, guard, |locked| locked.waits_for(awaited))
     }
 
-    /// Wakes a worker, where one waits, if an item was left in a line as the lock was let go.
-    pub(crate) fn wake_worker(&self, left: Option<Manager>) {
-        if left.is_some() {
-            self.items.notify_one();
+    /// Lets go the lock, spins, and takes it again. Meanwhile a worker counts as one that looks for an item.
+    fn spin<R: Wait>(
+        &self,
+        rt: &R,
+        mut guard: MutexGuard<'_, Locked<L>>,
+        awaited: Awaited,
+    ) -> MutexGuard<'_, Locked<L>> {
+        match awaited {
+            Awaited::Item => {
+                let seen = self.looks.notifications();
+                guard.start_looking();
+                drop(guard);
+                spin(&self.looks, seen);
+                let mut guard = self.lock(rt);
+                guard.stop_looking();
+                guard
+            }
+            Awaited::Answer(_) => {
+                let bell = self.bell(awaited);
+                let seen = bell.notifications();
+                drop(guard);
+                spin(bell, seen);
+                self.lock(rt)
+            }
+        }
+    }
+
+    /// Wakes this worker, where there is one.
+    pub(crate) fn wake_worker(&self, woken: Woken) {
+        match woken {
+            Woken::Nobody => {}
+            Woken::Looking => self.looks.notify_one(),
+            Woken::Sleeping => self.items.notify_one(),
         }
     }
 

@@ -12,8 +12,9 @@ const VAIN: u32 = 4;
 /// From then on it spins once in so many waits.
 const TRIAL: u32 = 128;
 
-/// Whether a thread spins before it sleeps. Where it is notified within the spin, as by a thread on another processor, neither
-/// has to ask the kernel; where it isn't, as on one processor, the time is lost. So it spins as long as that pays.
+/// Whether a thread spins before it sleeps. Where what it waits for comes within the spin, as by a thread on another
+/// processor, neither has to ask the kernel; where it doesn't, as on one processor, or where another thread takes it first,
+/// the time is lost. So it spins as long as that pays.
 #[derive(Debug, Drop)]
 pub(crate) struct Spinner {
     /// How many waits there were since a spin paid.
@@ -26,24 +27,25 @@ impl Spinner {
         Spinner { vain: 0 }
     }
 
-    /// Waits for more notifications than were seen, for a while, if that may pay.
-    pub(crate) fn spin(&mut self, bell: &Condvar, seen: u64) {
+    /// A wait begins. True where a spin may pay.
+    pub(crate) fn begin(&mut self) -> bool {
         let is_tried = self.vain < VAIN || self.vain.is_multiple_of(TRIAL);
-        self.vain = if is_tried && is_notified(bell, seen) {
-            0
-        } else {
-            self.vain.wrapping_add(1)
-        };
+        self.vain = self.vain.wrapping_add(1);
+        is_tried
+    }
+
+    /// What the thread waited for is there after its spin.
+    pub(crate) fn paid(&mut self) {
+        self.vain = 0;
     }
 }
 
-/// Whether there are more notifications than were seen, within a while.
-fn is_notified(bell: &Condvar, seen: u64) -> bool {
+/// Waits for more notifications than were seen, for a while.
+pub(crate) fn spin(bell: &Condvar, seen: u64) {
     for _ in 0..LOOKS {
         if bell.notifications() != seen {
-            return true;
+            return;
         }
         spin_loop();
     }
-    false
 }

@@ -22,6 +22,17 @@ pub(crate) enum Awaited {
     Answer(Thread),
 }
 
+/// Which worker is woken as the lock is let go.
+#[derive(Clone, Copy, Debug, PartialEq, Eq)]
+pub(crate) enum Woken {
+    /// None, as no item stands in a line.
+    Nobody,
+    /// One that looks for an item, and doesn't sleep.
+    Looking,
+    /// One that sleeps, as none looks.
+    Sleeping,
+}
+
 /// Some threads of one user.
 #[derive(Clone, Copy, Debug, PartialEq, Eq)]
 pub(crate) struct ThreadSet {

@@ -95,9 +95,9 @@ fn receive<L: Ledger, R: Wait>(
     let mut guard = server.lock_for(rt, spinner, Awaited::Item);
     let manager = guard.world().next_manager()?;
     let received = guard.receive(seat, worker, manager);
-    let left = guard.world().next_manager();
+    let woken = guard.woken();
     drop(guard);
-    server.wake_worker(left);
+    server.wake_worker(woken);
     match received {
         Ok(received) => received,
         Err(_) => {

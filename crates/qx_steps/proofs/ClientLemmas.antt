@@ -1,5 +1,5 @@
 -- A client's step, by what the channel makes of it.
-use Rattle.std.proofs.Common.{◌≡◌, ◌≢◌, inl, inr, ℕ, List, Option, Some, None, Result, Ok, Err, slice_set, refl, sym, ap, ◌∙◌, Bool, false, true}
+use Rattle.std.proofs.Common.{◌≡◌, ◌≢◌, inl, inr, ℕ, List, Option, Some, None, Result, Ok, Err, slice_set, refl, sym, ap, ◌∙◌, false, true}
 use Rattle.std.specs.Prelude.{⊤, IfOk, IsErr, IsTrue, is_some}
 use Rattle.std.proofs.Math.Nat.{le-max_left, le_trans}
 use Rattle.std.proofs.lemmas.Bool.{cases_Bool}
@@ -48,7 +48,7 @@ use Rattle.qx_steps.specs.Steps.{target_in}
 use Rattle.qx_chan.proofs.CallLemmas.{queued_is}
 use Rattle.qx_chan.proofs.RowReads.{option_cases, result_cases}
 use Rattle.qx_steps.proofs.LeftLemmas.{AreLeft, left-kept, left-put, left-thread, queued-keeps, starts}
-use Rattle.qx_steps.proofs.OwnerLemmas.{Owner, exits, nobody, others_kept, owner, sound-step}
+use Rattle.qx_steps.proofs.OwnerLemmas.{Owner, nobody, others_kept, owner, sound-step}
 use Rattle.qx_steps.proofs.SettledLemmas.{settled-processes}
 use Rattle.qx_steps.proofs.StillLemmas.{still-asking, still-interrupting, still-ranking, still-send, still-spawn, still-taking, still-withdrawing, world-told}
 use Rattle.qx_steps.proofs.PartsLemmas.{thread_row-told}
@@ -67,7 +67,7 @@ call_outcome (Err outcome) = outcome
 row_in : (c : Channel) (thread : Thread) (ps : List (Option Process)) (row : ThreadRow) → row_at c.users thread.proc.user.0 ≡ Some ps → thread_row c.users thread ≡ Some row → thread_of thread.tid (row_at ps thread.proc.num) ≡ Some row
 row_in c thread ps row user is = rw user at is
 
-module _ (config : Configuration) (c : Channel) (ks : List (Option Kept)) (hands : List (Option Held)) {marks : List Bool} (sound : IsSound config c ks hands marks) where
+module _ (config : Configuration) (c : Channel) (ks : List (Option Kept)) (hands : List (Option Held)) (sound : IsSound config c ks hands) where
   abbrev w : World
   w = world_of config c ks hands
 
@@ -352,27 +352,27 @@ module _ (config : Configuration) (c : Channel) (ks : List (Option Kept)) (hands
 
   -- ---- what is sound still
 
-  after_sound : (e : Step) (d : Channel) (outcome : Outcome) → ((user : ℕ) → exits e user ≡ false) → AreResourcesOf d ks → step w e ≡ record { world = world_of config d ks hands; outcome = outcome } → IsSound config d ks hands marks
-  after_sound e d outcome stays users is = sound-step config c ks hands sound d ks hands e stays users (sym (ap (λ after. after.world) is))
+  after_sound : (e : Step) (d : Channel) (outcome : Outcome) → AreResourcesOf d ks → step w e ≡ record { world = world_of config d ks hands; outcome = outcome } → IsSound config d ks hands
+  after_sound e d outcome users is = sound-step config c ks hands sound d ks hands e users (sym (ap (λ after. after.world) is))
 
-  pub spawn-sound : (limits : UserLimits) (user : User) (threads : ℕ) (prio : Prio) → limits ≡ limits_of config user.0 → IsSound config (after_spawn limits c user.0 threads prio.0) ks hands marks
-  spawn-sound limits user threads prio is = after_sound _ _ _ (λ user. refl) (still-spawn c ks sound.users limits user.0 threads prio.0) (spawn-step limits user threads prio is)
+  pub spawn-sound : (limits : UserLimits) (user : User) (threads : ℕ) (prio : Prio) → limits ≡ limits_of config user.0 → IsSound config (after_spawn limits c user.0 threads prio.0) ks hands
+  spawn-sound limits user threads prio is = after_sound _ _ _ (still-spawn c ks sound.users limits user.0 threads prio.0) (spawn-step limits user threads prio is)
 
-  pub take_reply-sound : (thread : Thread) → IsSound config (after_taking c thread) ks hands marks
-  take_reply-sound thread = after_sound _ _ _ (λ user. refl) (still-taking c ks sound.users thread).of (take_reply-step thread)
+  pub take_reply-sound : (thread : Thread) → IsSound config (after_taking c thread) ks hands
+  take_reply-sound thread = after_sound _ _ _ (still-taking c ks sound.users thread).of (take_reply-step thread)
 
-  pub set_prio-sound : (ceiling : ℕ) (thread : Thread) (prio : Prio) → ceiling ≡ (limits_of config thread.proc.user.0).ceiling → IsSound config (after_ranking ceiling c thread prio.0) ks hands marks
-  set_prio-sound ceiling thread prio is = after_sound _ _ _ (λ user. refl) (still-ranking c ks sound.users ceiling thread prio.0) (set_prio-step ceiling thread prio is)
+  pub set_prio-sound : (ceiling : ℕ) (thread : Thread) (prio : Prio) → ceiling ≡ (limits_of config thread.proc.user.0).ceiling → IsSound config (after_ranking ceiling c thread prio.0) ks hands
+  set_prio-sound ceiling thread prio is = after_sound _ _ _ (still-ranking c ks sound.users ceiling thread prio.0) (set_prio-step ceiling thread prio is)
 
   still_called : (thread : Thread) (request : Request) (given : Result Addressed Outcome) → AreResourcesOf (after_call c thread request given) ks
   still_called thread request (Ok addressed) = still-send c ks sound.users thread (sent_to addressed request)
   still_called thread request (Err outcome) = sound.users
 
-  pub call-sound : (thread : Thread) (request : Request) → IsSound config (after_call c thread request (call_target config c thread request)) ks hands marks
-  call-sound thread request = after_sound _ _ _ (λ user. refl) (still_called thread request (call_target config c thread request)) (call-step thread request)
+  pub call-sound : (thread : Thread) (request : Request) → IsSound config (after_call c thread request (call_target config c thread request)) ks hands
+  call-sound thread request = after_sound _ _ _ (still_called thread request (call_target config c thread request)) (call-step thread request)
 
-  pub interrupt-sound : (thread : Thread) → IsSound config (after_interrupt c thread) ks hands marks
-  interrupt-sound thread = after_sound _ _ _ (λ user. refl) (still-interrupting c ks sound.users thread).of (interrupt-step thread)
+  pub interrupt-sound : (thread : Thread) → IsSound config (after_interrupt c thread) ks hands
+  interrupt-sound thread = after_sound _ _ _ (still-interrupting c ks sound.users thread).of (interrupt-step thread)
 
 -- a spawn that is refused
 pub spawn-refused : (number : Result ℕ Outcome) → IsTrue (is_refusal (spawn_outcome number)) → IsErr number

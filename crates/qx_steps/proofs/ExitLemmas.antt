@@ -1,5 +1,5 @@
 -- A process ends, and is freed if nothing is left of it.
-use Rattle.std.proofs.Common.{◌≡◌, ◌≢◌, inl, inr, ℕ, zero, suc, ◌+◌, get_or, List, [], ◌∷◌, Option, Some, None, map, replicate, refl, sym, ap, subst, ◌∙◌, arith, Bool, true}
+use Rattle.std.proofs.Common.{◌≡◌, ◌≢◌, inl, inr, ℕ, zero, suc, ◌+◌, get_or, List, [], ◌∷◌, Option, Some, None, map, replicate, refl, sym, ap, subst, ◌∙◌, arith}
 use Rattle.std.specs.Prelude.{option_map, slice_set}
 use Rattle.std.proofs.lemmas.List.{get_or-set_other, set-set}
 use Rattle.qx_types.specs.Configuration.{Configuration}
@@ -33,7 +33,7 @@ use Rattle.qx_steps.specs.inner.Parts.{parts_of, told_all, world_of, IsSound}
 use Rattle.qx_steps.specs.inner.Performing.{with_left, with_one_left}
 use Rattle.qx_steps.proofs.FreeLemmas.{nobody-left, nobody_left, those_left}
 use Rattle.qx_steps.proofs.LeftLemmas.{left-row, left-waits, one-alone, waiting-marked}
-use Rattle.qx_steps.proofs.OwnerLemmas.{Owner, exit-marked, get-set, nobody, owner, sound-marked, told_otherwise}
+use Rattle.qx_steps.proofs.OwnerLemmas.{Owner, get-set, nobody, owner, sound-step, told_otherwise}
 use Rattle.qx_steps.proofs.SettledLemmas.{settled-processes}
 use Rattle.qx_steps.proofs.StillLemmas.{still-exit, still-left}
 
@@ -64,7 +64,7 @@ settled-exit part held process =
       resources = record (without_process process part.resources) { events = events };
     }) (settled-ended (is_living (with_row part.processes process ended)) part.resources process)
 
-module _ (config : Configuration) (c : Channel) (ks : List (Option Kept)) (hands : List (Option Held)) {marks : List Bool} (sound : IsSound config c ks hands marks) (proc : Proc) where
+module _ (config : Configuration) (c : Channel) (ks : List (Option Kept)) (hands : List (Option Held)) (sound : IsSound config c ks hands) (proc : Proc) where
   abbrev w : World
   w = world_of config c ks hands
 
@@ -241,7 +241,7 @@ module _ (config : Configuration) (c : Channel) (ks : List (Option Kept)) (hands
         ]
   ]
 
-  pub exit-sound : (room : ℕ) → IsSound config (record (freed (after_exit c proc)) { room = room }) ks hands (slice_set marks proc.user.0 true)
+  pub exit-sound : (room : ℕ) → IsSound config (record (freed (after_exit c proc)) { room = room }) ks hands
   exit-sound room =
-      sound-marked config c ks hands sound (record (freed (after_exit c proc)) { room = room }) ks hands (slice_set marks proc.user.0 true) (Exit proc) (λ user unmarked. inl (exit-marked marks proc user unmarked)) (still-left (after_exit c proc) ks (still-exit c ks sound.users proc) held proc.user.0 room)
+      sound-step config c ks hands sound (record (freed (after_exit c proc)) { room = room }) ks hands (Exit proc) (still-left (after_exit c proc) ks (still-exit c ks sound.users proc) held proc.user.0 room)
       (sym (ap (λ after. after.world) exit-step))

@@ -2,19 +2,16 @@
 pub mod ResultLemmas
 -- the rows of users, put together from two columns
 pub mod PartsLemmas
--- no user has too many processes
 -- processes of which none is to be freed
 pub mod LeftLemmas
--- no step but an exit ends a process
-pub mod QuietLemmas
 -- what the end of a step settles
 pub mod SettledLemmas
 -- a user in a sound world
 pub mod OwnerLemmas
 -- processes that have ended are freed
 pub mod FreeLemmas
--- marks of users
-pub mod MarkLemmas
+-- a perform frees one process at most
+pub mod OneLemmas
 -- a client's step, by what the channel makes of it
 pub mod ClientLemmas
 -- a process ends

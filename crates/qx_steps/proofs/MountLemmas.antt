@@ -1,8 +1,7 @@
 -- A step that mounts: how it is judged, and what it comes to.
-use Rattle.std.proofs.Common.{◌≡◌, ◌⊎◌, inl, inr, ℕ, zero, suc, List, [], ◌∷◌, true, false, Option, Some, None, Result, Ok, Err, refl, sym, ap, subst, ◌∙◌, Bool}
+use Rattle.std.proofs.Common.{◌≡◌, inl, inr, ℕ, zero, suc, List, [], ◌∷◌, true, false, Option, Some, None, Result, Ok, Err, refl, sym, ap, ◌∙◌}
 use Rattle.std.specs.Prelude.{IfOk, option_map, slice_set}
-use Rattle.std.proofs.lemmas.Bool.{cases_eq, false≢true}
-use Rattle.std.proofs.lemmas.Option.{same_Some}
+use Rattle.std.proofs.lemmas.Bool.{false≢true}
 use Rattle.qx_types.specs.Configuration.{Configuration, name_bytes}
 use Rattle.qx_errno.specs.declared.Errno.{Errno}
 use Rattle.qx_types.specs.declared.names.Manager.{Manager}
@@ -24,10 +23,9 @@ use Rattle.qx_machine.specs.Parts.{Part, thread_of}
 use Rattle.qx_machine.specs.Resources.{Resources}
 use Rattle.qx_machine.specs.Processes.{Process}
 use Rattle.qx_isolation.specs.Rows.{row_at, with_row}
-use Rattle.qx_machine.specs.Users.{client, settle_part}
-use Rattle.qx_isolation.proofs.Places.{row_at-set_other, set-row_at}
-use Rattle.qx_machine.proofs.Settled.{same_settled, settled-left}
-use Rattle.qx_process.proofs.RowLemmas.{with_row-none}
+use Rattle.qx_machine.specs.Users.{client}
+use Rattle.qx_isolation.proofs.Places.{set-row_at}
+use Rattle.qx_machine.proofs.Settled.{settled-left}
 use Rattle.qx_resources.specs.Mounts as mounts
 use Rattle.qx_resources.specs.Mounts.{with_new_root}
 use Rattle.qx_resources.specs.State.{told, Kept}
@@ -35,9 +33,10 @@ use Rattle.qx_chan.specs.Channel.{Channel, lists}
 use Rattle.qx_steps.specs.inner.Parts.{part_of, parts_of, told_all, world_of, AreResourcesOf, IsSound}
 use Rattle.qx_steps.specs.inner.Reads.{is_thread_ready}
 use Rattle.qx_machine.specs.Reads.{process_of_part, row_among_parts}
-use Rattle.qx_steps.specs.inner.Steps.{after_mount, mount_from, mount_in, CanMount, IsMountable}
-use Rattle.qx_chan.proofs.RowReads.{option_cases, row_at-with_same}
+use Rattle.qx_steps.specs.inner.Steps.{after_mount, mount_from, mount_in, CanMount, IsMountable, IsMounting}
+use Rattle.qx_chan.proofs.RowReads.{option_cases}
 use Rattle.qx_steps.proofs.LeftLemmas.{AreLeft}
+use Rattle.qx_steps.proofs.OwnerLemmas.{sound-step}
 use Rattle.qx_steps.proofs.SettledLemmas.{settled-mount}
 use Rattle.qx_steps.proofs.PartsLemmas.{mapped-put, row_at-parts, still-resources, told-none, told-there}
 use Rattle.qx_steps.proofs.StillLemmas.{of-users}
@@ -106,39 +105,11 @@ mount-done w thread path manager mount settled is = elim (option_cases (row_at w
       rw (part.1, its, settled-mount mount part.0 (own_held thread.proc.user.0 w.hands) left) refl
 ]
 
--- ---- nothing is left to be settled then
+-- ---- the world then is sound
 
-module _ (w : World) (user : ℕ) (mount : MountPoint) where
-  abbrev mounts_one : Part → Part
-  mounts_one part = record part { resources = with_mount mount part.resources }
-
-  -- a user's rows then are those before, or have one more mount
-  after_cases : (other : ℕ) (part : Part) → row_at (after_mount w user mount).parts other ≡ Some part → (row_at w.parts other ≡ Some part) ⊎ ((before : Part) × ((row_at w.parts user ≡ Some before) × ((other ≡ user) × (mounts_one before ≡ part))))
-  after_cases other part there = elim (cases_eq other user) [
-    | inl same ↦ elim (option_cases (row_at w.parts user)) [
-      | inl none ↦ inl (sym (ap (λ parts. row_at parts other) (with_row-none w.parts user mounts_one none)) ∙ there)
-      | inr before ↦
-          let put : Some (mounts_one before.0) ≡ Some part = sym (row_at-with_same w.parts user mounts_one ∙ ap (option_map mounts_one) before.1) ∙ (ap (row_at (after_mount w user mount).parts) (sym same) ∙ there) in
-          inr (before.0, (before.1, (same, same_Some _ _ put)))
-    ]
-    | inr differs ↦ inl (sym (row_at-set_other w.parts user other (option_map mounts_one (row_at w.parts user)) differs) ∙ there)
-  ]
-
-  mount_settled : IsSettled w → IsSettled (after_mount w user mount)
-  mount_settled settled other part there = elim (after_cases other part there) [
-    | inl was ↦ settled other part was
-    | inr its ↦
-        let after = same_settled (mounts_one its.0) (own_held user w.hands) (left_of w user its.0 settled its.1.0) in
-        subst (λ number. settle_part part (own_held number w.hands) part ≡ part) (sym its.1.1.0) (subst (λ part. settle_part part (own_held user w.hands) part ≡ part) its.1.1.1 after)
-  ]
-
-pub sound-mount : (config : Configuration) (c d : Channel) (ks ls : List (Option Kept)) (hands : List (Option Held)) {marks : List Bool} (user : ℕ) (mount : MountPoint) → IsSound config c ks hands marks → d.users ≡ c.users → AreResourcesOf d ls
-    → world_of config d ls hands ≡ after_mount (world_of config c ks hands) user mount → IsSound config d ls hands marks
-sound-mount config c d ks ls hands user mount sound same users is = record {
-  users = users;
-  settled = subst IsSettled (sym is) (mount_settled (world_of config c ks hands) user mount sound.settled);
-  marked = rw same sound.marked;
-}
+pub sound-mount : (config : Configuration) (c d : Channel) (ks ls : List (Option Kept)) (hands : List (Option Held)) (user : ℕ) (mount : MountPoint) → IsSound config c ks hands → IsMounting (world_of config c ks hands) user mount → AreResourcesOf d ls
+    → world_of config d ls hands ≡ after_mount (world_of config c ks hands) user mount → IsSound config d ls hands
+sound-mount config c d ks ls hands user mount sound mounting users is = sound-step config c ks hands sound d ls hands mounting.0 users (is ∙ sym mounting.1)
 
 -- ---- a manager is attached for a user
 

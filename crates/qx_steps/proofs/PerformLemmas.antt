@@ -1,7 +1,7 @@
 -- An item is done for its user, the worker's hand is empty, and processes that have ended are freed: the machine's world then.
-use Rattle.std.proofs.Common.{length, ◌≡◌, ◌≢◌, inl, inr, ℕ, get_or, Bool, true, false, List, [], Option, Some, None, is_some, refl, sym, ap, ap₂, subst, ◌∙◌}
-use Rattle.std.specs.Prelude.{Ok, option_map, slice_set}
-use Rattle.std.proofs.lemmas.Bool.{cases_eq, false≢true}
+use Rattle.std.proofs.Common.{false, length, ◌≡◌, inl, inr, ℕ, get_or, true, List, [], Option, Some, None, is_some, refl, sym, ap, ap₂, subst, ◌∙◌}
+use Rattle.std.specs.Prelude.{◌||◌, Ok, option_map, slice_set}
+use Rattle.std.proofs.lemmas.Bool.{false≢true}
 use Rattle.std.proofs.lemmas.List.{get_or-set_other, set-set}
 use Rattle.std.proofs.lemmas.Option.{same_Some}
 use Rattle.qx_types.specs.Configuration.{Configuration}
@@ -17,22 +17,26 @@ use Rattle.qx_machine.specs.Events.{no_events}
 use Rattle.qx_machine.specs.Machine.{World, item_to_do, lines_after, named_thread, own_held, performed_part, with_empty_hand}
 use Rattle.qx_machine.specs.Parts.{Part}
 use Rattle.qx_machine.specs.Performing.{Served, or_kept, serve_disconnect, serve_message, serve_pulse}
-use Rattle.qx_machine.specs.Processes.{Process}
+use Rattle.qx_machine.specs.Processes.{Process, has_ended, has_server}
 use Rattle.qx_machine.specs.Resources.{Resources}
 use Rattle.qx_isolation.specs.Rows.{row_at, with_row}
-use Rattle.qx_machine.specs.Settling.{processes_left}
+use Rattle.qx_machine.specs.Settling.{is_held, process_of_item, processes_left}
 use Rattle.qx_machine.specs.Users.{serve, settle_part}
 use Rattle.qx_machine.specs.Waiting.{no_pipes}
 use Rattle.qx_resources.specs.State.{told, Kept}
 use Rattle.qx_chan.specs.Channel.{Channel, channel_pipes, lists}
 use Rattle.qx_chan.specs.Serving.{part_in, settled, PartServed, Serves}
+use Rattle.qx_procs.specs.Calls.{has_ended_in}
+use Rattle.qx_chan.specs.Users.{Users, process_of, process_of_user}
+use Rattle.qx_steps.specs.inner.Held.{IsThere, IsThereBy}
 use Rattle.qx_chan.proofs.RowReads.{option_cases, row_at-set_same, row_within}
-use Rattle.qx_steps.specs.inner.Parts.{has_ended_among, part_of, parts_of, told_all, told_world, world_of, AreResourcesOf, IsSound, SameUsers}
-use Rattle.qx_steps.specs.inner.Performing.{with_left, Performs, PerformsFor}
-use Rattle.qx_steps.proofs.FreeLemmas.{nobody_left, those_left}
-use Rattle.qx_steps.proofs.OwnerLemmas.{Owner, all-live, nobody, none-ended, owner, sound-marked}
+use Rattle.qx_invariants.proofs.Reached.{run_ended}
+use Rattle.qx_steps.specs.inner.Parts.{part_of, parts_of, told_all, told_world, world_of, AreResourcesOf, IsSound, SameUsers}
+use Rattle.qx_steps.specs.inner.Performing.{with_left, with_one_left, Performs, PerformsFor}
+use Rattle.qx_steps.proofs.FreeLemmas.{nobody-left, nobody_left, those_left}
+use Rattle.qx_steps.proofs.OneLemmas.{like-kept, one-left_alone, served-like, served-lives, still-held}
+use Rattle.qx_steps.proofs.OwnerLemmas.{Owner, nobody, owner, sound-step}
 use Rattle.qx_steps.proofs.PartsLemmas.{mapped-put, parts-set_both, row_at-parts, same-with_processes, still-resources, told-there}
-use Rattle.qx_steps.proofs.QuietLemmas.{served_live}
 use Rattle.qx_steps.proofs.StillLemmas.{of-users, still-left}
 use Rattle.qx_steps.proofs.WorkerLemmas.{perform-handled}
 
@@ -112,9 +116,16 @@ pub performs-disconnect : (c d : Channel) (k l : Kept) (held : Held) (process mo
 unfolding serve
 performs-disconnect c d k l held process moment server proc is named serves config items = rw is (rw named at serves)
 
+-- a process lives still whose message it was
+lives-by : (config : Configuration) (user : ℕ) (items : List OwnItem) (part : Part) (own : OwnItem) (moment : ℕ) (users : Users) → row_at users user ≡ Some part.processes → IsThereBy users user own
+    → has_ended_in (row_at (serve config user items part own moment).part.processes (process_of_item own)) ≡ false
+lives-by config user items part (item.Message process thread) moment users is there = served-lives config user items part process thread moment (rw is at there)
+lives-by config user items part (item.Unblock process thread call) moment users is there = absurd there
+lives-by config user items part (item.Disconnect process server) moment users is there = absurd there
+
 -- ---- the end of the step
 
-module _ (config : Configuration) (c : Channel) (ks : List (Option Kept)) (hands : List (Option Held)) {marks : List Bool} (sound : IsSound config c ks hands marks) (worker : ℕ) (held : Held) (moment : ℕ) where
+module _ (config : Configuration) (c : Channel) (ks : List (Option Kept)) (hands : List (Option Held)) (sound : IsSound config c ks hands) (worker : ℕ) (held : Held) (moment : ℕ) where
   abbrev w : World
   w = world_of config c ks hands
 
@@ -127,6 +138,10 @@ module _ (config : Configuration) (c : Channel) (ks : List (Option Kept)) (hands
 
   abbrev freed : Channel → Channel
   freed d = with_left d items user
+
+  -- whose item it is
+  abbrev pub owner_then : Proc
+  owner_then = record { user = held.user; num = process_of_item held.item }
 
   module _ (ps : List (Option Process)) (o : Owner config c ks hands sound user ps) (d : Channel) (l : Kept) (performs : Performs c d o.k l held moment) where
     abbrev part : Part
@@ -168,6 +183,16 @@ module _ (config : Configuration) (c : Channel) (ks : List (Option Kept)) (hands
         ap (λ (e : Channel). e.users) (those_left d items user given.part.processes row-then)
         ∙ ((λ i. slice_set (users-then i) user (Some (processes_left items (pipes-then i) 0 given.part.processes))) ∙ set-set c.users user (Some given.part.processes) (Some qs))
 
+    -- no process but that whose item it was is freed
+    one-alone : row_at hands worker ≡ Some held → with_one_left d items owner_then ≡ freed d
+    one-alone holds =
+        let law : (number : ℕ) (process : Process) → row_at ps number ≡ Some process → has_ended process ≡ true → (has_server process || is_held (own_held user hands) number) ≡ true =
+        λ number process there ended. subst (λ (world : World). (has_server process || is_held (own_held user world.hands) number) ≡ true) (sym sound.reached)
+        (run_ended config sound.steps user part number process (ap (λ (world : World). row_at world.parts user) (sym sound.reached) ∙ o.part) there ended) in
+        let kept = like-kept owner_then.num (own_held user hands) items ps given.part.processes (served-like config user items part held.item moment) law (λ number differs. still-held user worker held hands number holds differs) in
+        ap (λ users. record d { users = users })
+        (rw row-then (ap (λ rows. slice_set d.users user (Some rows)) (sym (one-left_alone items (channel_pipes d user) owner_then.num given.part.processes kept))))
+
     parts-then : parts_of (freed d).users (told_all d (slice_set ks user (Some l))) ≡ slice_set w.parts user (Some (settle_part part items given.part))
     unfolding settle_part
     parts-then =
@@ -198,27 +223,43 @@ module _ (config : Configuration) (c : Channel) (ks : List (Option Kept)) (hands
         ap (λ ls. world_of config (freed d) ls (slice_set hands worker None)) did.1.0 ∙ performed-one ps.0 o d did.0 (subst (λ k. Performs c d k did.0 held moment) same did.1.1)
   ]
 
-  -- before any is freed, no process has ended if none had before
-  pub performed-quiet : (d : Channel) (ls : List (Option Kept)) (k : Option Kept) → row_at ks user ≡ k → PerformsFor c d ks ls held moment k
-      → has_ended_among (row_at c.users user) ≡ false → has_ended_among (row_at d.users user) ≡ false
-  performed-quiet d ls None there did none = ap (λ (e : Channel). has_ended_among (row_at e.users user)) did.0 ∙ none
-  performed-quiet d ls (Some k) there did none = elim (option_cases (row_at c.users user)) [
-    | inl no_one ↦ absurd (false≢true (sym (ap is_some no_one) ∙ (sound.users.same user ∙ ap is_some there)))
+  freed-alone : (d : Channel) (ls : List (Option Kept)) (k : Option Kept) → row_at hands worker ≡ Some held → row_at ks user ≡ k → PerformsFor c d ks ls held moment k → with_one_left d items owner_then ≡ freed d
+  freed-alone d ls None holds there did = elim (option_cases (row_at c.users user)) [
+    | inl none ↦ subst (λ (e : Channel). with_one_left e items owner_then ≡ freed e) (sym did.0) (nobody-left c items owner_then none ∙ sym (nobody_left c items user none))
+    | inr ps ↦ absurd (false≢true (sym (ap is_some there) ∙ (sym (sound.users.same user) ∙ ap is_some ps.1)))
+  ]
+  freed-alone d ls (Some k) holds there did = elim (option_cases (row_at c.users user)) [
+    | inl none ↦ absurd (false≢true (sym (ap is_some none) ∙ (sound.users.same user ∙ ap is_some there)))
     | inr ps ↦
         let o = owner config c ks hands sound user ps.0 ps.1 in
         let same : k ≡ o.k = same_Some k o.k (sym there ∙ o.kept) in
-        ap has_ended_among (row-then ps.0 o d did.0 (subst (λ k. Performs c d k did.0 held moment) same did.1.1))
-        ∙ none-ended _ (served_live config user items (part ps.0 o d did.0 (subst (λ k. Performs c d k did.0 held moment) same did.1.1)) held.item moment (all-live ps.0 (rw ps.1 at none)))
+        one-alone ps.0 o d did.0 (subst (λ k. Performs c d k did.0 held moment) same did.1.1) holds
   ]
 
+  -- the process lives still whose message was served
+  pub performed-lives : (d : Channel) (ls : List (Option Kept)) (k : Option Kept) → row_at ks user ≡ k → PerformsFor c d ks ls held moment k → IsThere c.users held → has_ended_in (process_of d.users owner_then) ≡ false
+  performed-lives d ls None there did thread = elim (option_cases (row_at c.users user)) [
+    | inl none ↦ ap (λ processes. has_ended_in (process_of_user owner_then.num processes)) (ap (λ (e : Channel). row_at e.users user) did.0 ∙ none)
+    | inr ps ↦ absurd (false≢true (sym (ap is_some there) ∙ (sym (sound.users.same user) ∙ ap is_some ps.1)))
+  ]
+  performed-lives d ls (Some k) there did thread = elim (option_cases (row_at c.users user)) [
+    | inl none ↦ absurd (false≢true (sym (ap is_some none) ∙ (sound.users.same user ∙ ap is_some there)))
+    | inr ps ↦
+        let o = owner config c ks hands sound user ps.0 ps.1 in
+        let same : k ≡ o.k = same_Some k o.k (sym there ∙ o.kept) in
+        let performs = subst (λ k. Performs c d k did.0 held moment) same did.1.1 in
+        ap (λ processes. has_ended_in (process_of_user owner_then.num processes)) (row-then ps.0 o d did.0 performs)
+        ∙ lives-by config user items (part ps.0 o d did.0 performs) held.item moment c.users ps.1 thread
+  ]
+
+  -- once the process is freed whose item it was, if nothing is left of it, all are that can be
+  pub perform-freed : (d : Channel) (ls : List (Option Kept)) (k : Option Kept) → row_at hands worker ≡ Some held → row_at ks user ≡ k → PerformsFor c d ks ls held moment k
+      → (now : Channel) → now ≡ record (with_one_left d items owner_then) { room = now.room } → now ≡ record (freed d) { room = now.room }
+  perform-freed d ls k holds there did now is = is ∙ ap {A = Channel} (λ e. record e { room = now.room }) (freed-alone d ls k holds there did)
+
   pub performed-sound : (d : Channel) (ls : List (Option Kept)) (k : Option Kept) → item_to_do w worker ≡ Ok held → row_at ks user ≡ k → PerformsFor c d ks ls held moment k
-      → (room : ℕ) (after : List Bool) → ((other : ℕ) → other ≢ user → get_or after other true ≡ get_or marks other true) → (get_or after user true ≡ false → has_ended_among (row_at (freed d).users user) ≡ false)
-      → IsSound config (record (freed d) { room = room }) ls (slice_set hands worker None) after
-  performed-sound d ls k holds there did room after others own =
-      sound-marked config c ks hands sound (record (freed d) { room = room }) ls (slice_set hands worker None) after (Perform (record { 0 = worker }) moment)
-      (λ other unmarked. elim (cases_eq other user) [
-        | inl same ↦ inr (rw same (own (rw same at unmarked)))
-        | inr differs ↦ inl (sym (others other differs) ∙ unmarked, refl)
-      ])
+      → (room : ℕ) → IsSound config (record (freed d) { room = room }) ls (slice_set hands worker None)
+  performed-sound d ls k holds there did room =
+      sound-step config c ks hands sound (record (freed d) { room = room }) ls (slice_set hands worker None) (Perform (record { 0 = worker }) moment)
       (still-left d ls (still-performing c d ks ls sound.users held moment config k there did) items user room)
       (performed d ls k there did ∙ sym (ap (λ after. after.world) (perform-handled w (record { 0 = worker }) moment held holds)))

@@ -1,5 +1,5 @@
 -- A process takes its first pulse: the user's events change, and the other users' are told as before.
-use Rattle.std.proofs.Common.{◌≡◌, inl, inr, ℕ, zero, suc, ◌+◌, get_or, List, [], ◌∷◌, Option, Some, None, drop, refl, sym, ap, ◌∙◌, Bool}
+use Rattle.std.proofs.Common.{◌≡◌, inl, inr, ℕ, zero, suc, ◌+◌, get_or, List, [], ◌∷◌, Option, Some, None, drop, refl, sym, ap, ◌∙◌}
 use Rattle.std.specs.Prelude.{replicate, slice_set}
 use Rattle.std.proofs.lemmas.List.{get_or-set_other}
 use Rattle.qx_types.specs.Configuration.{Configuration}
@@ -34,7 +34,7 @@ undropped zero process = refl
 undropped (suc count) zero = refl
 undropped (suc count) (suc process) = ap (λ rows. [] ∷ rows) (undropped count process)
 
-module _ (config : Configuration) (c : Channel) (ks : List (Option Kept)) (hands : List (Option Held)) {marks : List Bool} (sound : IsSound config c ks hands marks) (proc : Proc) where
+module _ (config : Configuration) (c : Channel) (ks : List (Option Kept)) (hands : List (Option Held)) (sound : IsSound config c ks hands) (proc : Proc) where
   abbrev w : World
   w = world_of config c ks hands
 
@@ -121,5 +121,5 @@ module _ (config : Configuration) (c : Channel) (ks : List (Option Kept)) (hands
         ]
   ]
 
-  pub pulse-sound : IsSound config (after_pulse c proc) ks hands marks
-  pulse-sound = sound-step config c ks hands sound (after_pulse c proc) ks hands (TakePulse proc) (λ user. refl) (still-pulse c ks sound.users proc) (sym (ap (λ after. after.world) take_pulse-step))
+  pub pulse-sound : IsSound config (after_pulse c proc) ks hands
+  pulse-sound = sound-step config c ks hands sound (after_pulse c proc) ks hands (TakePulse proc) (still-pulse c ks sound.users proc) (sym (ap (λ after. after.world) take_pulse-step))

@@ -125,7 +125,7 @@ held-read config c ks hands of read worker held does is =
     let its = holds (world_of config c ks hands) worker held does in
     read_item config c ks of read held.user held.item (rw (its.0, its.1) at is)
 
-module _ (config : Configuration) (c : Channel) (ks : List (Option Kept)) (hands : List (Option Held)) {marks : List Bool} (sound : IsSound config c ks hands marks) where
+module _ (config : Configuration) (c : Channel) (ks : List (Option Kept)) (hands : List (Option Held)) (sound : IsSound config c ks hands) where
   abbrev w : World
   w = world_of config c ks hands
 
@@ -197,12 +197,12 @@ module _ (config : Configuration) (c : Channel) (ks : List (Option Kept)) (hands
 
   -- ---- what is sound still
 
-  pub idle-sound : (worker : Worker) (manager : Manager) → is_worker config worker.0 ≡ true → is_some (row_at hands worker.0) ≡ false → slice_get (channel_line c manager) 0 ≡ None → IsSound config (after_receive c manager) ks hands marks
+  pub idle-sound : (worker : Worker) (manager : Manager) → is_worker config worker.0 ≡ true → is_some (row_at hands worker.0) ≡ false → slice_get (channel_line c manager) 0 ≡ None → IsSound config (after_receive c manager) ks hands
   idle-sound worker manager valid hand none =
-      sound-step config c ks hands sound (after_receive c manager) ks hands (Receive worker manager) (λ user. refl) (still-receive c ks sound.users manager) (sym (ap (λ after. after.world) (receive-idle worker manager valid hand none)))
+      sound-step config c ks hands sound (after_receive c manager) ks hands (Receive worker manager) (still-receive c ks sound.users manager) (sym (ap (λ after. after.world) (receive-idle worker manager valid hand none)))
 
   pub took-sound : (worker : Worker) (manager : Manager) (first : Queued) → is_worker config worker.0 ≡ true → is_some (row_at hands worker.0) ≡ false → slice_get (channel_line c manager) 0 ≡ Some first
-      → IsSound config (after_receive c manager) ks (slice_set hands worker.0 (Some (record { user = first.user; item = first.item }))) marks
+      → IsSound config (after_receive c manager) ks (slice_set hands worker.0 (Some (record { user = first.user; item = first.item })))
   took-sound worker manager first valid hand is =
-      sound-step config c ks hands sound (after_receive c manager) ks (slice_set hands worker.0 (Some (record { user = first.user; item = first.item }))) (Receive worker manager) (λ user. refl) (still-receive c ks sound.users manager)
+      sound-step config c ks hands sound (after_receive c manager) ks (slice_set hands worker.0 (Some (record { user = first.user; item = first.item }))) (Receive worker manager) (still-receive c ks sound.users manager)
       (sym (ap (λ after. after.world) (receive-took worker manager first valid hand is)))

@@ -1,3 +1,4 @@
 pub mod Held
+pub mod Reached
 pub mod Steps
 pub mod inner

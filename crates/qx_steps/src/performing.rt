@@ -1,6 +1,6 @@
 //! What a worker performs, for the user whose item it is, and how processes that have ended are freed.
 
-ghost use Rattle.std.specs.Prelude.{◌≡◌, ◌≢◌, ℕ, IsFalse, IsOk, OnErr, OnOk, false, get_or, slice_set, true};
+ghost use Rattle.std.specs.Prelude.{◌≡◌, false, IfOk, IsFalse, IsOk, OnErr, OnOk};
 ghost use Rattle.std.specs.List.{list_any};
 ghost use Rattle.std.specs.Option.{option_copied};
 ghost use Rattle.qx_machine.specs.Machine as machine;
@@ -8,10 +8,12 @@ ghost use Rattle.qx_machine.specs.Machine.{own_held};
 ghost use Rattle.qx_isolation.specs.Rows.{row_at};
 ghost use Rattle.qx_machine.specs.Settling.{process_of_item};
 ghost use Rattle.qx_machine.specs.Wants.{item_wants_memory};
+ghost use Rattle.qx_procs.specs.Calls.{has_ended_in};
 ghost use Rattle.qx_chan.specs.Serving.{IsReadOf};
-ghost use Rattle.qx_steps.specs.inner.Held.{taken_item};
-ghost use Rattle.qx_steps.specs.inner.Parts.{has_ended_among, parts_of, told_all, AreResourcesOf};
-ghost use Rattle.qx_steps.specs.inner.Performing.{holds_of, with_left, with_one_left, PerformsFor};
+ghost use Rattle.qx_chan.specs.Users.{process_of};
+ghost use Rattle.qx_steps.specs.inner.Held.{taken_item, IsThere};
+ghost use Rattle.qx_steps.specs.inner.Parts.{parts_of, told_all, AreResourcesOf};
+ghost use Rattle.qx_steps.specs.inner.Performing.{holds_of, with_one_left, PerformsFor};
 
 use qx_chan::Channel;
 use qx_machine::{Held, OwnItem};
@@ -22,7 +24,7 @@ use qx_wire::Parsed;
 use std::alloc::AllocError;
 
 /// Does an item of a user that a worker holds, at a moment; nothing, where the user is not there. If it is a message, that may
-/// have been read before.
+/// have been read before. Tells whether the process whose item it is may have ended.
 #[inline(always)]
 pub(crate) fn perform(
     channel: &mut Channel,
@@ -32,20 +34,21 @@ pub(crate) fn perform(
     moment: u64,
     reply: &mut Reply,
     memory: &mut Vec<u8>,
-) -> Result<(), AllocError>
+) -> Result<bool, AllocError>
     requires users { AreResourcesOf channel.old resources.old }
     requires read { IsReadOf (option_copied read) (taken_item channel.old.users held) }
     ensures ok { OnOk result (PerformsFor channel.old channel.new resources.old resources.new held moment (row_at resources.old held.user.0)) }
+    ensures there { IfOk result (λ may_have_ended. IsFalse may_have_ended → IsThere channel.old.users held) }
     ensures err { OnErr result ((channel.new ≡ channel.old) × (resources.new ≡ resources.old)) }
     ensures sure { IsFalse (item_wants_memory (row_at (parts_of channel.old.users (told_all channel.old resources.old)) held.user.0) held.item moment) → IsOk result }
 {
     let Some(resources) = resources.user_mut(held.user) else {
-        return Ok(());
+        return Ok(true);
     };
-    match held.item {
+    Ok(match held.item {
         OwnItem::Message { process, thread } => {
             let thread = named_thread(held.user, process, thread);
-            channel.serve(resources, thread, read, moment, reply, memory)?;
+            !channel.serve(resources, thread, read, moment, reply, memory)?
         }
         OwnItem::Unblock {
             process,
@@ -54,76 +57,28 @@ pub(crate) fn perform(
         } => {
             let thread = named_thread(held.user, process, thread);
             channel.cancel(resources, thread, call, moment);
+            true
         }
         OwnItem::Disconnect { process, server } => {
             let proc = named_process(held.user, process);
             channel.disconnect(resources, proc, server, moment);
+            true
         }
-    }
-    Ok(())
+    })
 }
 
-/// Frees those processes of a user that have ended and of which nothing is left: no server connection, no item in a worker's
-/// hand and no call that waits. The user's mark tells whether any may have ended, and then whether any has that is there
-/// still.
-pub(crate) fn free_ended(
+/// Frees the process whose item was performed, if it has ended and nothing of it is left.
+pub(crate) fn free_owner(
     channel: &mut Channel,
     hands: &[Option<Held>],
-    user: User,
-    marks: &mut Vec<bool>,
+    held: Held,
+    may_have_ended: bool,
 )
-    requires marked { get_or marks.old.items user.0 true ≡ false → has_ended_among (row_at channel.old.users user.0) ≡ false }
-    ensures freed { channel.new ≡ record (with_left channel.old (own_held user.0 hands.now) user.0) { room = channel.new.room } }
-    ensures marked { get_or marks.new.items user.0 true ≡ false → has_ended_among (row_at channel.new.users user.0) ≡ false }
-    ensures unmarked { has_ended_among (row_at channel.new.users user.0) ≡ false → get_or marks.new.items user.0 false ≡ false }
-    ensures others { (other : ℕ) → other ≢ user.0 → get_or marks.new.items other true ≡ get_or marks.old.items other true }
+    requires lives { IsFalse may_have_ended → has_ended_in (process_of channel.old.users (record { user = held.user; num = process_of_item held.item })) ≡ false }
+    ensures freed { channel.new ≡ record (with_one_left channel.old (own_held held.user.0 hands.now) (record { user = held.user; num = process_of_item held.item })) { room = channel.new.room } }
 {
-    if !is_marked(marks.as_slice(), user) {
-        return;
-    }
-    free_each(channel, hands, user);
-    set_mark(marks, user, has_ended(channel, user));
-}
-
-/// Frees each process of a user that has ended and of which nothing is left.
-fn free_each(channel: &mut Channel, hands: &[Option<Held>], user: User)
-    ensures { channel.new ≡ record (with_left channel.old (own_held user.0 hands.now) user.0) { room = channel.new.room } }
-{
-    let Some(processes) = channel.processes(user) else {
-        return;
-    };
-    for number in 0..processes.places() {
-        free_one(channel, hands, named_process(user, number));
-    }
-}
-
-/// Whether a process of a user has ended that is there still.
-fn has_ended(channel: &Channel, user: User) -> bool
-    ensures { result ≡ has_ended_among (row_at channel.now.users user.0) }
-{
-    match channel.processes(user) {
-        Some(processes) => processes.has_ended(),
-        None => false,
-    }
-}
-
-/// Whether a process of a user may have ended, by the marks of all users.
-fn is_marked(marks: &[bool], user: User) -> bool
-    ensures mark { result ≡ get_or marks.now user.0 true }
-{
-    match marks.get(user.0 as usize) {
-        Some(mark) => *mark,
-        None => true,
-    }
-}
-
-/// Marks a user, of whom a process may have ended, or takes the mark away.
-pub(crate) fn set_mark(marks: &mut Vec<bool>, user: User, may_have_ended: bool)
-    ensures marks { marks.new.items ≡ slice_set marks.old.items user.0 may_have_ended }
-{
-    let place = user.0 as usize;
-    if place < marks.len() {
-        marks[place] = may_have_ended;
+    if may_have_ended {
+        free_one(channel, hands, owner_of(held));
     }
 }
 
@@ -162,6 +117,13 @@ fn process_of(item: OwnItem) -> u8
         | OwnItem::Unblock { process, .. }
         | OwnItem::Disconnect { process, .. } => process,
     }
+}
+
+/// The process whose item a worker holds.
+fn owner_of(held: Held) -> Proc
+    ensures { result ≡ record { user = held.user; num = process_of_item held.item } }
+{
+    named_process(held.user, process_of(held.item))
 }
 
 /// A process of a user.

@@ -9,14 +9,16 @@ ghost use Rattle.qx_machine.specs.Machine as machine;
 ghost use Rattle.qx_isolation.specs.Rows.{row_at};
 ghost use Rattle.qx_machine.specs.Wants.{wants_memory};
 ghost use Rattle.qx_process.specs.Reads.{is_thread_blocked};
+ghost use Rattle.qx_chan.specs.Channel.{is_no_pulse};
 ghost use Rattle.qx_chan.specs.Sending.{HasMemory};
 ghost use Rattle.qx_steps.specs.Held.{bytes_of_work, held_work, received_bytes, work_now, IsReadFor, IsStale};
 ghost use Rattle.qx_machine.specs.Reads.{answer_of, has_item, is_thread_answered, next_manager, process_among_parts, row_among_parts};
+ghost use Rattle.qx_steps.specs.Reached.{IsReached};
 ghost use Rattle.qx_steps.specs.inner.Reads.{is_thread_ready};
-ghost use Rattle.qx_steps.specs.inner.Steps.{after_mount, mount_in, CanMount};
+ghost use Rattle.qx_steps.specs.inner.Steps.{after_mount, mount_in, CanMount, IsMounting};
 ghost use Rattle.qx_steps.specs.Steps.{target_in};
 
-use crate::performing::{free_ended, free_one, named_thread, perform, set_mark};
+use crate::performing::{free_one, free_owner, named_thread, perform};
 use crate::work::{PerformFault, Work, WorkRef};
 use qx_chan::Channel;
 use qx_hint::assert_unchecked;
@@ -38,8 +40,6 @@ pub struct World {
     channel: Channel,
     resources: AllResources,
     hands: Vec<Option<Held>>,
-    /// Whether a process of a user may have ended that is not freed, under the user's number.
-    marks: Vec<bool>,
     /// The bytes of the reply to the message that is being done.
     reply: Reply,
     /// Memory that the bytes of a message left, for the next one of more than a few.
@@ -55,7 +55,6 @@ impl Drop for World {
             channel: _,
             resources: _,
             hands: _,
-            marks: _,
             reply: _,
             memory: _,
         } = self;
@@ -74,7 +73,7 @@ impl Model for World {
 
     ghost view = { λ w. world_of w.config w.channel w.resources w.hands.items };
 
-    ghost invariant = { λ w. IsSound w.config w.channel w.resources w.hands.items w.marks.items };
+    ghost invariant = { λ w. IsSound w.config w.channel w.resources w.hands.items };
 }
 
 impl World {
@@ -85,7 +84,6 @@ impl World {
         let channel = Channel::boot(alloc, &config)?;
         let resources = AllResources::boot(alloc, &config)?;
         let hands = empty_hands(alloc, config.workers())?;
-        let marks = vec![in alloc; true; config.user_count() + 1]?;
         let reply = Reply::new(alloc)?;
         Ok(World {
             alloc,
@@ -93,7 +91,6 @@ impl World {
             channel,
             resources,
             hands,
-            marks,
             reply,
             memory: Vec::new(alloc),
         })
@@ -155,7 +152,6 @@ impl World {
     {
         let outcome = self.channel.exit(self.alloc, proc);
         free_one(&mut self.channel, self.hands.as_slice(), proc);
-        set_mark(&mut self.marks, proc.user, true);
         outcome
     }
 
@@ -298,6 +294,7 @@ impl World {
     /// A manager is attached for a user.
     fn attach(&mut self, user: User, mount: &NewMount<'_>) -> Result<(), NoMemory>
         requires can { CanMount (row_at self.old.parts user.0) mount.now }
+        requires mounting { IsMounting self.old user.0 mount.now }
         ensures ok { OnOk result (self.new ≡ after_mount self.old user.0 mount.now) }
         ensures err { OnErr result (self.new ≡ self.old) }
     {
@@ -424,7 +421,7 @@ impl World {
         ensures err { OnErr result (self.new ≡ self.old) }
         ensures sure { IsFalse (wants_memory self.old (Step.Perform worker moment)) → IsOk result }
     {
-        perform(
+        let may_have_ended = perform(
             &mut self.channel,
             &mut self.resources,
             held,
@@ -436,11 +433,11 @@ impl World {
         let place = worker.0 as usize;
         assert_unchecked(place < self.hands.len());
         places::free(&mut self.hands, place);
-        free_ended(
+        free_owner(
             &mut self.channel,
             self.hands.as_slice(),
-            held.user,
-            &mut self.marks,
+            held,
+            may_have_ended,
         );
         Ok(())
     }
@@ -514,11 +511,25 @@ impl World {
         }
     }
 
+    /// Whether a process that takes a pulse now is told that it has none (C Library Reference: `MsgReceivePulse`).
+    pub fn lacks_pulse(&self, proc: Proc) -> bool
+        ensures { result ≡ is_no_pulse (machine.step self.now (Step.TakePulse proc)).outcome }
+    {
+        self.channel.lacks_pulse(proc)
+    }
+
     /// How many items stand in a manager's line.
     pub fn waiting(&self, manager: Manager) -> usize
         ensures { result ≡ length (machine.line_of self.now manager) }
     {
         self.channel.len(manager)
+    }
+
+    /// The priority of the first item of a manager's line; none where the line is empty.
+    pub fn first_prio(&self, manager: Manager) -> Option<Prio>
+        ensures { result ≡ option_map (λ first. first.prio) (slice_get (machine.line_of self.now manager) 0) }
+    {
+        Some(self.channel.first(manager)?.prio)
     }
 
     /// The manager whose line a worker serves next: the first one, by number, in whose line an item stands; none where all
@@ -543,6 +554,14 @@ impl World {
             return None;
         }
         Some(manager)
+    }
+
+    /// Tells that some steps lead to the world from boot.
+    #[inline(always)]
+    pub fn know_reached(&self)
+        ensures { IsReached self.now }
+    {
+        let _config = &self.config;
     }
 
     /// The configuration.

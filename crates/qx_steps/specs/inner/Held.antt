@@ -1,5 +1,5 @@
 -- What only the proofs need of Held.
-use Rattle.std.specs.Prelude.{ℕ, Option, None}
+use Rattle.std.specs.Prelude.{ℕ, Option, None, IsSome}
 use Rattle.qx_isolation.specs.declared.rows.Held.{Held}
 use Rattle.qx_isolation.specs.declared.rows.OwnItem.{OwnItem}
 use Rattle.qx_isolation.specs.declared.rows.OwnItem.TheVariants as item
@@ -15,3 +15,11 @@ taken_by users user _ = None
 -- the message that is held, which was received and is not served
 abbrev pub taken_item : Users → Held → Option Sent
 taken_item users held = taken_by users held.user.0 held.item
+
+-- the thread is there whose message is held; no pulse says so
+abbrev pub IsThereBy : Users → ℕ → OwnItem → Type 0
+IsThereBy users user (item.Message process thread) = IsSome (thread_row users (named_thread user process thread))
+IsThereBy users user _ = ⊥
+
+abbrev pub IsThere : Users → Held → Type 0
+IsThere users held = IsThereBy users held.user.0 held.item

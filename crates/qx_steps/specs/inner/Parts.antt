@@ -1,15 +1,14 @@
 -- The machine's world, put together from what the channel has and what the managers keep.
-use Rattle.std.specs.Prelude.{◌≡◌, ◌<◌, ℕ, Bool, true, false, List, [], ◌∷◌, Option, Some, None, get_or, is_some, length, map, option_map}
-use Rattle.std.specs.List.{list_any}
+use Rattle.std.specs.Prelude.{◌≡◌, ◌<◌, ℕ, List, [], ◌∷◌, Option, Some, None, is_some, length, map, option_map}
 use Rattle.qx_types.specs.Configuration.{Configuration}
+use Rattle.qx_types.specs.declared.step.Step.{Step}
 use Rattle.qx_isolation.specs.declared.rows.Held.{Held}
-use Rattle.qx_machine.specs.Laws.{IsSettled}
 use Rattle.qx_machine.specs.Machine.{World}
+use Rattle.qx_machine.specs.Runs.{run}
 use Rattle.qx_machine.specs.Parts.{Part}
 use Rattle.qx_machine.specs.Resources.{Resources}
 use Rattle.qx_machine.specs.Processes.{Process}
 use Rattle.qx_isolation.specs.Rows.{row_at}
-use Rattle.qx_procs.specs.Calls.{has_ended_in}
 use Rattle.qx_resources.specs.State.{told, Kept}
 use Rattle.qx_chan.specs.Channel.{Channel, lists}
 
@@ -44,18 +43,8 @@ pub record AreResourcesOf (channel : Channel) (resources : List (Option Kept)) :
   pub own : (user : ℕ) (kept : Kept) → row_at resources user ≡ Some kept → kept.user ≡ user
   pub mounts : (user : ℕ) (kept : Kept) → row_at resources user ≡ Some kept → user < length channel.mounts
 
--- whether a process of a user has ended that is there still
-abbrev pub has_ended_among : Option (List (Option Process)) → Bool
-has_ended_among None = false
-has_ended_among (Some processes) = list_any has_ended_in processes
-
--- of a user without a mark none has
-abbrev pub Tell : List Bool → List (Option (List (Option Process))) → Type 0
-Tell marks users = (user : ℕ) → get_or marks user true ≡ false → has_ended_among (row_at users user) ≡ false
-
--- channel and resources are of the same users, and make a world in which nothing is left to be settled; marks tell of which users a process
--- may have ended
-pub record IsSound (config : Configuration) (channel : Channel) (resources : List (Option Kept)) (hands : List (Option Held)) (marks : List Bool) : Type 0 where
+-- channel and resources are of the same users, and make a world to which a run of these steps comes
+pub record IsSound (config : Configuration) (channel : Channel) (resources : List (Option Kept)) (hands : List (Option Held)) : Type 0 where
   pub users : AreResourcesOf channel resources
-  pub settled : IsSettled (world_of config channel resources hands)
-  pub marked : Tell marks channel.users
+  pub steps : List Step
+  pub reached : world_of config channel resources hands ≡ (run config steps).world

@@ -1,14 +1,12 @@
 -- What a worker performs, and which processes are freed at the end of a step.
-use Rattle.std.specs.Prelude.{◌≡◌, ℕ, zero, suc, ◌+◌, ◌==◌, ◌&&◌, Bool, false, List, [], ◌∷◌, Option, Some, None, slice_set}
+use Rattle.std.specs.Prelude.{◌≡◌, ℕ, ◌==◌, ◌&&◌, Bool, false, List, Option, Some, None, slice_set}
 use Rattle.qx_types.specs.Configuration.{Configuration}
 use Rattle.qx_types.specs.declared.names.Proc.{Proc}
 use Rattle.qx_isolation.specs.declared.rows.Held.{Held}
 use Rattle.qx_isolation.specs.declared.rows.OwnItem.{OwnItem}
-use Rattle.qx_machine.specs.Processes.{Process}
 use Rattle.qx_isolation.specs.Rows.{row_at, with_row}
 use Rattle.qx_machine.specs.Settling.{process_of_item, processes_left, row_left}
 use Rattle.qx_machine.specs.Users.{serve}
-use Rattle.qx_machine.specs.Waiting.{Pipes}
 use Rattle.qx_resources.specs.State.{Kept}
 use Rattle.qx_chan.specs.Channel.{Channel, channel_pipes}
 use Rattle.qx_chan.specs.Serving.{Serves, settled}
@@ -34,16 +32,6 @@ holds_of user number (Some held) = (held.user.0 == user) && (process_of_item hel
 -- the processes of a user that have ended are freed, where workers hold these items of the user
 abbrev pub with_left : Channel → List OwnItem → ℕ → Channel
 with_left c held user = record c { users = with_row c.users user (processes_left held (channel_pipes c user) 0) }
-
--- the first processes, so many from a number on, without those that are freed
-abbrev pub first_left : List OwnItem → Pipes → ℕ → ℕ → List (Option Process) → List (Option Process)
-first_left held pipes zero number rows = rows
-first_left held pipes (suc count) number [] = []
-first_left held pipes (suc count) number (row ∷ rows) = row_left held pipes number row ∷ first_left held pipes count (number + 1) rows
-
--- the first processes of a user are freed that have ended
-abbrev pub with_first_left : Channel → List OwnItem → ℕ → ℕ → Channel
-with_first_left c held user count = record c { users = with_row c.users user (first_left held (channel_pipes c user) count 0) }
 
 -- one is freed, if it has ended
 abbrev pub with_one_left : Channel → List OwnItem → Proc → Channel

@@ -4,12 +4,13 @@ use Rattle.qx_types.specs.Configuration.{Configuration}
 use Rattle.qx_types.specs.declared.names.Manager.{Manager}
 use Rattle.qx_types.specs.declared.names.Thread.{Thread}
 use Rattle.qx_types.specs.declared.outcome.Outcome.{Outcome}
+use Rattle.qx_types.specs.declared.step.Step.{Step}
 use Rattle.qx_types.specs.declared.outcome.Outcome.TheVariants.{WrongState}
 use Rattle.qx_paths.specs.Mounts.{mount_fault}
 use Rattle.qx_paths.specs.Prefixes.{MountPoint}
 use Rattle.qx_machine.specs.Clients.{mount_by}
 use Rattle.qx_machine.specs.Inodes.{inode_number}
-use Rattle.qx_machine.specs.Machine.{World}
+use Rattle.qx_machine.specs.Machine.{World, step}
 use Rattle.qx_machine.specs.Mounting.{with_mount}
 use Rattle.qx_machine.specs.Parts.{Part}
 use Rattle.qx_machine.specs.Resources.{Resources}
@@ -35,3 +36,7 @@ CanMount (Some part) mount = IsMountable part.resources mount
 -- the world with one more mount of a user
 abbrev pub after_mount : World → ℕ → MountPoint → World
 after_mount w user mount = record w { parts = with_row w.parts user (λ part. record part { resources = with_mount mount part.resources }) }
+
+-- a step comes to that
+abbrev pub IsMounting : World → ℕ → MountPoint → Type 0
+IsMounting w user mount = (e : Step) × ((step w e).world ≡ after_mount w user mount)

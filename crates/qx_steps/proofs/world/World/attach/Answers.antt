@@ -1,4 +1,4 @@
-use Rattle.std.proofs.Common.{Some, refl, slice_set, sym}
+use Rattle.std.proofs.Common.{Some, slice_set, sym}
 use Rattle.qx_paths.specs.Mounts.{with_mount_of}
 use Rattle.qx_process.proofs.RowLemmas.{set-row}
 use Rattle.qx_resources.specs.Mounts.{with_new_root}
@@ -30,7 +30,7 @@ invariant_of-self-2 c =
     let then = record c.self.inside.channel { mounts = with_mount_of c.self.inside.channel.mounts c.args.user.0 c.args.mount.now } in
     let rows = slice_set c.self.inside.resources c.args.user.0 (Some (with_new_root c.args.mount.now.root c.in-Some.resources.now)) in
     rw (c.in_ok-mount.ensures.mounted, c.in_ok-mount.ensures.root)
-    (sound-mount c.self.inside.config c.self.inside.channel then c.self.inside.resources rows c.self.inside.hands.items c.args.user.0 c.args.mount.now c.self.invariant refl
+    (sound-mount c.self.inside.config c.self.inside.channel then c.self.inside.resources rows c.self.inside.hands.items c.args.user.0 c.args.mount.now c.self.invariant (rw (← c.self.view_is) at c.requires.mounting)
     (attached_of c.self.inside.config c.self.inside.channel c.self.inside.resources c.self.inside.hands.items c.self.invariant.users c.args.user.0 c.in-Some.resources.now c.args.mount.now there)
     (attached c.self.inside.config c.self.inside.channel c.self.inside.resources c.self.inside.hands.items c.self.invariant.users c.args.user.0 c.in-Some.resources.now c.args.mount.now there))
 

@@ -12,6 +12,7 @@ use Rattle.qx_steps.specs.inner.Reads.{is_thread_ready}
 use Rattle.qx_machine.specs.Reads.{row_among_parts}
 use Rattle.qx_steps.specs.inner.Steps.{CanMount}
 use Rattle.qx_steps.proofs.MountLemmas.{nobody-mount, ready-mount, still_ok}
+use Rattle.qx_steps.proofs.OwnerLemmas.{settled_sound}
 use Rattle.qx_steps.proofs.PartsLemmas.{told-none, told-there}
 use Rattle.qx_steps.proofs.world.World.judge_mount.Goals as goal
 
@@ -43,3 +44,12 @@ returns-clause-mount c =
     let path = c.new_mount.ensures.mount (lists c.self.inside.channel) (sym c.mounts-mounts.ensures.mounts) in
     let given : c.new_mount.result ≡ new_mount (name_bytes c.self.inside.config c.args.thread.proc.user.0) c.args.path.now c.args.manager r = search rules in
     rw (refused, ← c.self.view_is) (ap or_refused given ∙ sym judged)
+
+pub returns-in_default-clause-settled : goal.returns-in_default-clause-settled
+returns-in_default-clause-settled c = rw (← c.self.view_is) (settled_sound c.self.inside.config c.self.inside.channel c.self.inside.resources c.self.inside.hands.items c.self.invariant)
+
+pub returns-then-not-is_ready-clause-settled : goal.returns-then-not-is_ready-clause-settled
+returns-then-not-is_ready-clause-settled c = rw (← c.self.view_is) (settled_sound c.self.inside.config c.self.inside.channel c.self.inside.resources c.self.inside.hands.items c.self.invariant)
+
+pub returns-clause-settled : goal.returns-clause-settled
+returns-clause-settled c = rw (← c.self.view_is) (settled_sound c.self.inside.config c.self.inside.channel c.self.inside.resources c.self.inside.hands.items c.self.invariant)

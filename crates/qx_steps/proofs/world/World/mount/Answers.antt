@@ -1,7 +1,12 @@
-use Rattle.std.proofs.Common.{refl, sym}
+use Rattle.std.proofs.Common.{ap, refl, sym}
 use Rattle.std.proofs.lemmas.Bool.{false≢true}
 use Rattle.qx_steps.proofs.MountLemmas.{mount-done, mount-refused}
+use Rattle.qx_types.specs.declared.step.Step.TheVariants.{Mount}
 use Rattle.qx_steps.proofs.world.World.mount.Goals as goal
+
+pub attach-requires-clause-mounting : goal.attach-requires-clause-mounting
+attach-requires-clause-mounting c =
+    (Mount c.args.thread c.args.path.now c.args.manager, ap (λ after. after.world) (mount-done c.args.self.now c.args.thread c.args.path.now c.args.manager c.in-Ok.mount c.judge_mount.ensures.settled (sym c.in-Ok.ensures.mount)))
 
 pub returns-in_err-attach-in-Ok-clause-sure : goal.returns-in_err-attach-in-Ok-clause-sure
 returns-in_err-attach-in-Ok-clause-sure c = rw (mount-done c.args.self.now c.args.thread c.args.path.now c.args.manager c.in-Ok.mount c.judge_mount.ensures.settled (sym c.in-Ok.ensures.mount)) (λ refused. absurd (false≢true refused))
