@@ -24,7 +24,7 @@ use plain_rules::files::Files;
 pub use plain_rules::files::ServerName;
 use plain_rules::messages::{Reading, read, write};
 use plain_rules::paths::{Mount, Mounts, judge_form, text_of};
-use plain_rules::pipes::{Answers, has_waiters};
+use plain_rules::pipes::{Answers, MANAGERS, has_waiters};
 use qx_types::{
     Answer, Bytes, Coid, Config, Errno, LimitName, Manager, Outcome, Prio, Proc, Request, Step,
     Thread, User, Worker,
@@ -582,10 +582,10 @@ impl Plain {
             .map(|mount| &mount.text)
     }
 
-    /// The first of the managers of which a user has the fewest mounts.
+    /// The first of the managers that have rules here of which a user has the fewest mounts.
     pub fn least_mounted(&self, user: User) -> Manager {
         let mut least = (usize::MAX, Manager::Ram);
-        for manager in (0..Manager::COUNT).filter_map(Manager::of_number) {
+        for manager in (0..usize::from(MANAGERS)).filter_map(Manager::of_number) {
             let count = self.mounts.count(user, manager);
             if count < least.0 {
                 least = (count, manager);

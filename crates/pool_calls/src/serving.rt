@@ -6,13 +6,25 @@ use std::sync::Wait;
 use std::sync::atomic::{AtomicU64, Ordering};
 use std::thread;
 
-/// Counts the items that pass, and lets another thread run now and then.
+/// Lets another thread run at one in 16 of the items that pass; or at none, so that the kernel is not entered.
 #[derive(Drop)]
-pub struct Yielding(pub AtomicU64);
+pub struct Yielding {
+    passed: AtomicU64,
+    yields: bool,
+}
+
+impl Yielding {
+    pub fn new(yields: bool) -> Yielding {
+        Yielding {
+            passed: AtomicU64::new(0),
+            yields,
+        }
+    }
+}
 
 impl Gate for Yielding {
     fn between(&self, _rt: &impl Wait, _worker: Worker, _item: Item) {
-        if self.0.fetch_add(1, Ordering::SeqCst) % 16 == 0 {
+        if self.yields && self.passed.fetch_add(1, Ordering::SeqCst) % 16 == 0 {
             thread::yield_now();
         }
     }

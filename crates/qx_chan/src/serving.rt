@@ -58,6 +58,7 @@ impl Channel {
         requires read { IsReadOf (option_copied read) (taken_of (thread_row self.old.users thread)) }
         ensures ok { OnOk result (Serves self.old self.new resources.old resources.new (λ part. settled part (or_kept part (serve_message part thread.proc.num thread.tid moment)))) }
         ensures served { IfOk result (λ served. IsTrue served → IsSome (thread_row self.old.users thread)) }
+        ensures unserved { IfOk result (λ served. IsFalse served → taken_of (thread_row self.old.users thread) ≡ None) }
         ensures room { OnOk result (self.new.room ≡ self.old.room) }
         ensures err { OnErr result ((self.new ≡ self.old) × (resources.new ≡ resources.old)) }
         ensures sure { IsFalse (thread_wants_memory (part_in self.old resources.old) thread.proc.num thread.tid moment) → IsOk result }

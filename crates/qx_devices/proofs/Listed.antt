@@ -6,13 +6,14 @@ use Rattle.std.proofs.lemmas.List.FromFn.{get_or-range_with_len}
 use Rattle.std.proofs.lemmas.Option.{get_or_from_slice_get, slice_get-get_or, slice_get-map, slice_get_within}
 use Rattle.qx_devices.specs.Devices.{device_number, devices}
 use Rattle.qx_devices.specs.declared.Device.{Device}
-use Rattle.qx_devices.specs.declared.Device.TheVariants.{Latch, Mailbox}
+use Rattle.qx_devices.specs.declared.Device.TheVariants.{Latch, Mailbox, Pump}
 use Rattle.qx_devices.specs.declared.TheConstants.Device.{COUNT}
 
 -- a device stands among all at its number
 pub device_at : (device : Device) → slice_get devices (device_number device) ≡ Some device
 device_at Latch = refl
 device_at Mailbox = refl
+device_at Pump = refl
 
 in_order : map device_number devices ≡ range_with_len 0 COUNT
 in_order = refl

@@ -14,11 +14,12 @@ use qx_device::{Given, State, Told};
 pub enum Device {
     Latch,
     Mailbox,
+    Pump,
 }
 
 impl Device {
     /// How many devices there are.
-    pub const COUNT: usize = 2;
+    pub const COUNT: usize = 3;
 
     /// The device's number, from 0.
     pub fn number(self) -> usize
@@ -28,6 +29,7 @@ impl Device {
         match self {
             Device::Latch => 0,
             Device::Mailbox => 1,
+            Device::Pump => 2,
         }
     }
 
@@ -38,6 +40,7 @@ impl Device {
         match number {
             0 => Some(Device::Latch),
             1 => Some(Device::Mailbox),
+            2 => Some(Device::Pump),
             _ => None,
         }
     }
@@ -49,6 +52,7 @@ impl Device {
         match self {
             Device::Latch => "latch",
             Device::Mailbox => "mailbox",
+            Device::Pump => "pump",
         }
     }
 
@@ -61,6 +65,7 @@ impl Device {
         match self {
             Device::Latch => latch_driver::read(count, state, given),
             Device::Mailbox => mailbox_driver::read(count, state, given),
+            Device::Pump => pump_driver::read(count, state, given),
         }
     }
 
@@ -73,6 +78,7 @@ impl Device {
         match self {
             Device::Latch => latch_driver::write(bytes, state),
             Device::Mailbox => mailbox_driver::write(bytes, state),
+            Device::Pump => pump_driver::write(bytes, state),
         }
     }
 
@@ -84,6 +90,7 @@ impl Device {
         match self {
             Device::Latch => latch_driver::may_read(state),
             Device::Mailbox => mailbox_driver::may_read(state),
+            Device::Pump => pump_driver::may_read(state),
         }
     }
 
@@ -95,6 +102,7 @@ impl Device {
         match self {
             Device::Latch => latch_driver::may_write(state),
             Device::Mailbox => mailbox_driver::may_write(state),
+            Device::Pump => pump_driver::may_write(state),
         }
     }
 }

@@ -22,3 +22,5 @@ pub mod Settled
 pub mod Due
 -- no process ends as an item is performed
 pub mod Living
+-- runs: the configuration stays, and one step more
+pub mod Runs

@@ -7,7 +7,7 @@ ghost use Rattle.qx_types.specs.declared.step.Step.{Step};
 ghost use Rattle.qx_isolation.specs.Lines.{line_at};
 ghost use Rattle.qx_machine.specs.Runs.{erase, received, run};
 ghost use Rattle.qx_play.specs.Play as play;
-ghost use Rattle.qx_play.specs.Play.{all_served, called, hand_emptied, played_line, with_reply_taken, with_lines_served, shown, items_waiting, world_played};
+ghost use Rattle.qx_play.specs.Play.{all_served, called, hand_emptied, played, played_line, with_reply_taken, with_lines_served, shown, items_waiting, world_played};
 ghost use Rattle.qx_play.specs.Printed.{transcript_text};
 
 use crate::text;
@@ -29,13 +29,27 @@ pub fn none_waits_once_served()
 pub fn play(alloc: Global, config: Config, commands: Vec<Command>) -> Result<Vec<u8>, NoMemory>
     ensures text { IfOk result (λ text. text.items ≡ shown config commands.items) }
 {
+    let (_traced, text) = play_traced(alloc, config, commands)?;
+    Ok(text)
+}
+
+/// Runs the lines of a script, and gives the run that they come to, and the text that they print.
+pub fn play_traced(
+    alloc: Global,
+    config: Config,
+    commands: Vec<Command>,
+) -> Result<(Traced, Vec<u8>), NoMemory>
+    ensures config { IfOk result (λ r. r.0.config ≡ config) }
+    ensures steps { IfOk result (λ r. r.0.steps ≡ (played config commands.items).steps) }
+    ensures text { IfOk result (λ r. r.1.items ≡ (played config commands.items).text) }
+{
     let mut traced = Traced::new(alloc, config)?;
     let mut text = Vec::new(alloc);
     let mut lines = commands.into_iter();
     'lines: while let Some(command) = lines.next() {
         play_line(&mut traced, &mut text, command)?;
     }
-    Ok(text)
+    Ok((traced, text))
 }
 
 /// Runs one line.

@@ -87,8 +87,9 @@ fn push_seen(
     Ok(())
 }
 
+/// A user, a process or a thread.
 #[tactic(auto, unfolding(crate::specs::Printed::actor_text))]
-fn push_actor(text: &mut Vec<u8>, config: &Config, actor: Actor) -> Result<(), NoMemory>
+pub fn push_actor(text: &mut Vec<u8>, config: &Config, actor: Actor) -> Result<(), NoMemory>
     ensures ok { OnOk result (text.new.items ≡ text.old.items ++ actor_text config.now actor) }
 {
     match actor {
@@ -118,9 +119,10 @@ fn push_item(text: &mut Vec<u8>, config: &Config, item: Item) -> Result<(), NoMe
     }
 }
 
+/// What came of a step.
 #[inline(always)]
 #[tactic(auto, unfolding(crate::specs::Printed::outcome_text))]
-fn push_outcome(text: &mut Vec<u8>, config: &Config, outcome: &Outcome) -> Result<(), NoMemory>
+pub fn push_outcome(text: &mut Vec<u8>, config: &Config, outcome: &Outcome) -> Result<(), NoMemory>
     ensures ok { OnOk result (text.new.items ≡ text.old.items ++ outcome_text config.now outcome.now) }
 {
     match outcome {

@@ -1,10 +1,6 @@
--- notes against what was stored, and marks of the places that were noted
-mod MarkLemmas
--- what is added to notes
-mod NoteLemmas
--- which outcomes steps have
-mod OutcomeLemmas
--- which threads are found to wait for no answer
+-- of which threads that came for which clients wait
 mod ReleasedLemmas
+-- what is done at a seat
+mod SeatLemmas
 -- sets of threads, as bits
 mod WaitLemmas

@@ -1,11 +1,15 @@
 -- What threads wait for, and which worker is woken, in the machine's words.
 use Rattle.std.specs.Prelude.{◌==◌, ℕ, Bool, if◌then◌else◌, is_some, not}
 use Rattle.qx_types.specs.declared.names.Thread.{Thread}
-use Rattle.qx_machine.specs.Machine.{World}
+use Rattle.qx_types.specs.declared.step.Step.TheVariants.{TakePulse}
+use Rattle.qx_machine.specs.Machine.{World, step}
 use Rattle.qx_process.specs.Reads.{is_thread_blocked}
 use Rattle.qx_machine.specs.Reads.{next_manager, row_among_parts}
+use Rattle.qx_chan.specs.Channel.{is_no_pulse}
 use Rattle.qx_pool.specs.declared.waits.Awaited.{Awaited}
-use Rattle.qx_pool.specs.declared.waits.Awaited.TheVariants.{Answer, Item}
+use Rattle.qx_pool.specs.declared.waits.Awaited.TheVariants.{Item, OfThread}
+use Rattle.qx_pool.specs.declared.waits.Coming.{Coming}
+use Rattle.qx_pool.specs.declared.waits.Coming.TheVariants.{Answer, Pulse}
 use Rattle.qx_pool.specs.declared.waits.Woken.{Woken}
 use Rattle.qx_pool.specs.declared.waits.Woken.TheVariants.{Looking, Nobody, Sleeping}
 
@@ -13,10 +17,15 @@ use Rattle.qx_pool.specs.declared.waits.Woken.TheVariants.{Looking, Nobody, Slee
 abbrev pub is_blocked : World → Thread → Bool
 is_blocked w thread = is_thread_blocked (row_among_parts w.parts thread)
 
+-- what is awaited of a thread has yet to come: its answer, or a pulse of its process
+abbrev pub is_to_come_of : World → Coming → Thread → Bool
+is_to_come_of w Answer thread = is_blocked w thread
+is_to_come_of w Pulse thread = is_no_pulse (step w (TakePulse thread.proc)).outcome
+
 -- what is awaited has yet to come
 abbrev pub is_to_come : World → Awaited → Bool
 is_to_come w Item = not (is_some (next_manager w))
-is_to_come w (Answer thread) = is_blocked w thread
+is_to_come w (OfThread what thread) = is_to_come_of w what thread
 
 -- which worker an item in a line wakes, where so many workers look for one
 abbrev pub woken : World → ℕ → Woken

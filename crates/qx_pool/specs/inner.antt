@@ -1,3 +1,1 @@
-pub mod Copies
 pub mod Ends
-pub mod Marks

@@ -3,18 +3,15 @@
 ghost use Rattle.std.specs.Prelude.{◌≡◌, ◌≢◌, true, IfErr, IfOk, MatchBool, OnErr};
 ghost use Rattle.qx_types.specs.Step.{is_client_step};
 ghost use Rattle.qx_types.specs.declared.outcome.Outcome.{Outcome};
-ghost use Rattle.qx_pool.specs.Ends.{CallAdds};
-ghost use Rattle.qx_pool.specs.Notes.{AddsOne};
-ghost use Rattle.qx_pool.specs.inner.Ends.{end_of};
+ghost use Rattle.qx_pool.specs.Ends.{CallAdds, PulseAdds};
+ghost use Rattle.qx_pool.specs.inner.Ends.{end_of, pulse_end_of};
 
-use crate::seat::Seat;
-use crate::server::Server;
+use crate::server::ServerOf;
 use crate::spinner::Spinner;
-use crate::waits::Awaited;
+use crate::waits::{Awaited, Coming};
 use qx_types::{Errno, MessageBytes, Outcome, Request, Step, Thread};
-use qx_world::Unstored;
+use qx_world::{UnderLock, Unstored};
 use std::sync::Wait;
-use std::sync::ledger::Ledger;
 
 /// How a call ended.
 #[derive(Debug, Drop, PartialEq, Eq)]
@@ -33,22 +30,35 @@ pub enum CallEnd {
     NoMemory,
 }
 
+/// How the waiting for a pulse ended.
+#[derive(Clone, Copy, Debug, Drop, PartialEq, Eq)]
+pub enum PulseEnd {
+    /// The pulse's code and its value (C Library Reference: `MsgReceivePulse`).
+    Pulse(u8, u64),
+    /// The process is not there, or has ended.
+    WrongState,
+    /// The server was stopped. A pulse that comes later is left.
+    Stopped,
+    /// Memory was short. The process has its pulse still.
+    NoMemory,
+}
+
 /// A thread of a process, at a seat of a server.
 #[derive(Drop)]
-pub struct Client<L: Ledger> {
-    seat: Seat<L>,
+pub struct ClientOf<S: UnderLock> {
+    seat: S::Seat,
     thread: Thread,
     spinner: Spinner,
 }
 
-impl<L: Ledger> Client<L> {
+impl<S: UnderLock> ClientOf<S> {
     /// A client that calls as a thread, which need not be there yet.
-    pub fn new(seat: Seat<L>, thread: Thread) -> Self
+    pub fn new(seat: S::Seat, thread: Thread) -> Self
         ensures seat { result.seat ≡ seat }
         ensures thread { result.thread ≡ thread }
     {
         let spinner = Spinner::new();
-        Client {
+        ClientOf {
             seat,
             thread,
             spinner,
@@ -56,10 +66,10 @@ impl<L: Ledger> Client<L> {
     }
 
     /// Gives the seat back.
-    pub fn into_seat(self) -> Seat<L>
+    pub fn into_seat(self) -> S::Seat
         ensures { result ≡ self.seat }
     {
-        let Client {
+        let ClientOf {
             seat,
             thread: _,
             spinner: _,
@@ -68,8 +78,8 @@ impl<L: Ledger> Client<L> {
     }
 
     /// Calls, waits while the thread is blocked, and takes the answer (C Library Reference: `MsgSend`).
-    pub fn call(&mut self, rt: &impl Wait, server: &Server<L>, request: Request) -> CallEnd
-        ensures notes { CallAdds self.old.thread request self.old.seat.notes.items self.new.seat.notes.items result }
+    pub fn call(&mut self, rt: &impl Wait, server: &ServerOf<S>, request: Request) -> CallEnd
+        ensures seat { CallAdds S.adds S.keeps self.old.thread request self.old.seat self.new.seat result }
         ensures thread { self.new.thread ≡ self.old.thread }
     {
         let thread = self.thread;
@@ -77,7 +87,9 @@ impl<L: Ledger> Client<L> {
         if guard.is_stopped() {
             return CallEnd::Stopped;
         }
-        let called = guard.take(&mut self.seat, Step::Call { thread, request });
+        let called = guard
+            .under
+            .take(&mut self.seat, Step::Call { thread, request });
         let woken = guard.woken();
         drop(guard);
         let Ok(outcome) = called else {
@@ -87,13 +99,31 @@ impl<L: Ledger> Client<L> {
             return end_of(outcome);
         }
         server.wake_worker(woken);
-        let mut guard = server.lock_for(rt, &mut self.spinner, Awaited::Answer(thread));
+        let answer = Awaited::OfThread(Coming::Answer, thread);
+        let mut guard = server.lock_for(rt, &mut self.spinner, answer);
         if guard.world().blocked(thread) {
             return CallEnd::Stopped;
         }
-        match guard.take(&mut self.seat, Step::TakeReply { thread }) {
+        match guard.under.take(&mut self.seat, Step::TakeReply { thread }) {
             Ok(outcome) => end_of(outcome),
             Err(_) => CallEnd::NoMemory,
+        }
+    }
+
+    /// Waits while the thread's process has no pulse, and takes the first one (C Library Reference: `MsgReceivePulse`).
+    pub fn pulse(&mut self, rt: &impl Wait, server: &ServerOf<S>) -> PulseEnd
+        ensures seat { PulseAdds S.adds S.keeps self.old.thread.proc self.old.seat self.new.seat result }
+        ensures thread { self.new.thread ≡ self.old.thread }
+    {
+        let proc = self.thread.proc;
+        let pulse = Awaited::OfThread(Coming::Pulse, Thread { proc, tid: 1 });
+        let mut guard = server.lock_for(rt, &mut self.spinner, pulse);
+        if guard.is_stopped() || guard.world().lacks_pulse(proc) {
+            return PulseEnd::Stopped;
+        }
+        match guard.under.take(&mut self.seat, Step::TakePulse { proc }) {
+            Ok(outcome) => pulse_end_of(&outcome),
+            Err(_) => PulseEnd::NoMemory,
         }
     }
 
@@ -101,18 +131,18 @@ impl<L: Ledger> Client<L> {
     pub fn step(
         &mut self,
         rt: &impl Wait,
-        server: &Server<L>,
+        server: &ServerOf<S>,
         step: Step,
     ) -> Result<Outcome, Unstored>
         requires client { is_client_step step ≡ true }
-        ensures notes { IfOk result (λ outcome. AddsOne self.old.seat.notes.items self.new.seat.notes.items step outcome) }
-        ensures none { OnErr result (self.new.seat.notes.items ≡ self.old.seat.notes.items) }
+        ensures seat { IfOk result (λ outcome. S.adds self.old.seat self.new.seat step outcome) }
+        ensures kept { OnErr result (S.keeps self.old.seat self.new.seat) }
         ensures handed_back { IfErr result (λ unstored. unstored.step ≡ step) }
         ensures thread { self.new.thread ≡ self.old.thread }
     {
         let user = step.actor().map(|actor| actor.user());
         let mut guard = server.lock(rt);
-        let result = guard.take(&mut self.seat, step);
+        let result = guard.under.take(&mut self.seat, step);
         let released = user.map(|user| guard.released(user));
         let woken = guard.woken();
         drop(guard);
@@ -140,5 +170,15 @@ fn end_of(outcome: Outcome) -> CallEnd
         Outcome::Failed(error) => CallEnd::Failed(error),
         Outcome::Refused(error) => CallEnd::Refused(error),
         _ => CallEnd::WrongState,
+    }
+}
+
+/// The end of the waiting for a pulse, whose taking gave this.
+fn pulse_end_of(outcome: &Outcome) -> PulseEnd
+    ensures { result ≡ pulse_end_of outcome.now }
+{
+    match outcome {
+        Outcome::Pulse(code, value) => PulseEnd::Pulse(*code, *value),
+        _ => PulseEnd::WrongState,
     }
 }

@@ -3,10 +3,10 @@
 ghost use Rattle.std.specs.Prelude.{◌≡◌, ◌<◌, ◌≤◌, IfErr, IfOk, length, map, sum_by, vec_len};
 ghost use Rattle.qx_world.specs.Trace.{run_of};
 ghost use Rattle.qx_pool.specs.Ends.{MatchFault};
-ghost use Rattle.qx_pool.specs.Notes.{Agrees};
+ghost use Rattle.qx_storing.specs.Notes.{Agrees};
 
-use crate::seat::Seat;
-use crate::server::Server;
+use crate::pool::Server;
+use qx_storing::Seat;
 use qx_world::Traced;
 use std::sync::ledger::Ledger;
 
@@ -34,14 +34,7 @@ pub fn finish<L: Ledger>(
     if seats.len() < server.made {
         return Err(FinishFault::Missing(server, seats));
     }
-    let Server {
-        locked,
-        items: _,
-        looks: _,
-        answers: _,
-        made: _,
-    } = server;
-    let (traced, seats, is_whole) = locked.into_inner().end(seats);
+    let (traced, seats, is_whole) = server.into_under().end(seats);
     if is_whole {
         Ok(traced)
     } else {

@@ -1,34 +1,32 @@
 //! A server: one lock, and where threads sleep.
 
-ghost use Rattle.std.specs.Prelude.{◌≡◌, ◌+◌, ◌≤◌, [], All, IfOk, OnOk, vec_len};
+ghost use Rattle.std.specs.Prelude.{◌≡◌, IfOk, vec_len};
 ghost use Rattle.qx_pool.specs.declared.waits.TheConstants.{THREADS};
 
 use crate::locked::Locked;
-use crate::seat::Seat;
 use crate::spinner::{Spinner, spin};
 use crate::waits::{Awaited, THREADS, ThreadSet, Woken, place_of};
-use qx_types::{Config, NoMemory};
+use qx_world::UnderLock;
 use std::alloc::{AllocError, Global};
 use std::marker::Model;
-use std::sync::ledger::{Blank, Ledger, Share};
 use std::sync::{Condvar, Mutex, MutexGuard, Wait};
 
-/// A trace under a lock, to which workers and clients come, each at a seat of its own.
+/// A world under a lock, to which workers and clients come.
 #[derive(Drop)]
-pub struct Server<L: Ledger> {
-    pub(crate) locked: Mutex<Locked<L>>,
+pub struct ServerOf<S: UnderLock> {
+    pub(crate) locked: Mutex<Locked<S>>,
     /// Where workers sleep until an item stands in a line.
     pub(crate) items: Condvar,
     /// What workers watch who look for an item before they sleep. No thread sleeps there.
     pub(crate) looks: Condvar,
-    /// Where clients sleep until a thread waits for no answer, for each thread one.
-    pub(crate) answers: Vec<Condvar>,
-    /// How many seats were made.
+    /// Where clients sleep until what they wait for came, for each thread one.
+    pub(crate) bells: Vec<Condvar>,
+    /// How many seats were made; 0 where they are not counted.
     pub(crate) made: usize,
 }
 
-/// Contracts see how many seats were made.
-impl<L: Ledger> Model for Server<L> {
+/// Contracts see how many seats were made, where they are counted.
+impl<S: UnderLock> Model for ServerOf<S> {
     ghost use Rattle.std.specs.Prelude.{◌≡◌, ℕ, vec_len};
     ghost use Rattle.qx_pool.specs.declared.waits.TheConstants.{THREADS};
 
@@ -36,38 +34,35 @@ impl<L: Ledger> Model for Server<L> {
 
     ghost view = { λ s. s.made };
 
-    ghost invariant = { λ s. (s.made ≡ L.parts) × (vec_len s.answers ≡ THREADS) };
+    ghost invariant = { λ s. (s.made ≡ S.seats) × (vec_len s.bells ≡ THREADS) };
 }
 
-impl<L: Ledger> Server<L> {
-    /// A server of a system at boot, and its seats: one for each of the configuration's workers, and so many more for
-    /// clients, as many in all as the blank ledger has parts.
-    pub fn new(
-        alloc: Global,
-        blank: Blank,
-        config: Config,
-        clients: usize,
-    ) -> Result<(Server<L>, Vec<Seat<L>>), NoMemory>
-        requires name { blank.name ≡ L.name }
-        requires parts { blank.parts ≡ L.parts }
-        requires seats { blank.parts ≡ config.workers + clients }
-        ensures made { IfOk result (λ r. r.0 ≡ config.workers + clients) }
-        ensures seats { IfOk result (λ r. vec_len r.1 ≡ config.workers + clients) }
-        ensures empty { IfOk result (λ r. All (λ s. s.notes.items ≡ []) r.1.items) }
+impl<S: UnderLock> ServerOf<S> {
+    /// A server of what lies under its lock then, with a bell for each thread, and so many seats.
+    pub(crate) fn over(under: S, bells: Vec<Condvar>, made: usize) -> ServerOf<S>
+        requires bells { vec_len bells ≡ THREADS }
+        requires made { made ≡ S.seats }
+        ensures { result ≡ made }
     {
-        let workers = config.workers() as usize;
-        let (book, mut all) = blank.open::<L>();
-        let mut seats = Vec::new(alloc);
-        add_seats(alloc, &mut seats, &mut all, workers)?;
-        add_seats(alloc, &mut seats, &mut all, clients)?;
-        let server = Server {
-            locked: Mutex::new(Locked::new(alloc, config, book, all)?),
+        ServerOf {
+            locked: Mutex::new(Locked::new(under)),
             items: Condvar::new(),
             looks: Condvar::new(),
-            answers: condvars(alloc)?,
-            made: seats.len(),
-        };
-        Ok((server, seats))
+            bells,
+            made,
+        }
+    }
+
+    /// What lay under the lock.
+    pub(crate) fn into_under(self) -> S {
+        let ServerOf {
+            locked,
+            items: _,
+            looks: _,
+            bells: _,
+            made: _,
+        } = self;
+        locked.into_inner().into_under()
     }
 
     /// Ends the service: loops end once all lines are empty, clients that wait are answered `Stopped`, their calls standing
@@ -78,13 +73,13 @@ impl<L: Ledger> Server<L> {
         drop(guard);
         self.items.notify_all();
         self.looks.notify_all();
-        for bell in &self.answers {
+        for bell in &self.bells {
             bell.notify_all();
         }
     }
 
     /// Takes the lock.
-    pub(crate) fn lock(&self, rt: &impl Wait) -> MutexGuard<'_, Locked<L>> {
+    pub(crate) fn lock(&self, rt: &impl Wait) -> MutexGuard<'_, Locked<S>> {
         self.locked.lock(rt)
     }
 
@@ -94,7 +89,7 @@ impl<L: Ledger> Server<L> {
         rt: &R,
         spinner: &mut Spinner,
         awaited: Awaited,
-    ) -> MutexGuard<'_, Locked<L>> {
+    ) -> MutexGuard<'_, Locked<S>> {
         let mut guard = self.lock(rt);
         if !guard.waits_for(awaited) {
             return guard;
@@ -114,9 +109,9 @@ impl<L: Ledger> Server<L> {
     fn spin<R: Wait>(
         &self,
         rt: &R,
-        mut guard: MutexGuard<'_, Locked<L>>,
+        mut guard: MutexGuard<'_, Locked<S>>,
         awaited: Awaited,
-    ) -> MutexGuard<'_, Locked<L>> {
+    ) -> MutexGuard<'_, Locked<S>> {
         match awaited {
             Awaited::Item => {
                 let seen = self.looks.notifications();
@@ -127,7 +122,7 @@ impl<L: Ledger> Server<L> {
                 guard.stop_looking();
                 guard
             }
-            Awaited::Answer(_) => {
+            Awaited::OfThread(_, _) => {
                 let bell = self.bell(awaited);
                 let seen = bell.notifications();
                 drop(guard);
@@ -147,9 +142,15 @@ impl<L: Ledger> Server<L> {
     }
 
     /// Wakes the clients that wait for these threads.
-    pub(crate) fn wake_clients(&self, mut threads: ThreadSet) {
+    pub(crate) fn wake_clients(&self, (answered, pulsed): (ThreadSet, ThreadSet)) {
+        self.ring(answered);
+        self.ring(pulsed);
+    }
+
+    /// Wakes who sleeps at the bells of these threads.
+    fn ring(&self, mut threads: ThreadSet) {
         'waking: while let Some(thread) = threads.pop() {
-            self.bell(Awaited::Answer(thread)).notify_all();
+            self.bells[place_of(thread)].notify_all();
         }
     }
 
@@ -157,34 +158,13 @@ impl<L: Ledger> Server<L> {
     fn bell(&self, awaited: Awaited) -> &Condvar {
         match awaited {
             Awaited::Item => &self.items,
-            Awaited::Answer(thread) => &self.answers[place_of(thread)],
+            Awaited::OfThread(_, thread) => &self.bells[place_of(thread)],
         }
     }
 }
 
-/// So many seats more, each with one part of what is there.
-fn add_seats<L: Ledger>(
-    alloc: Global,
-    seats: &mut Vec<Seat<L>>,
-    all: &mut Share<L>,
-    count: usize,
-) -> Result<(), AllocError>
-    requires parts { count ≤ all.old.parts }
-    requires amount { all.old.amount ≡ 0 }
-    requires empty { All (λ s. s.notes.items ≡ []) seats.old.items }
-    ensures seats { OnOk result (vec_len seats.new ≡ vec_len seats.old + count) }
-    ensures parts { OnOk result (all.new.parts + count ≡ all.old.parts) }
-    ensures amount { OnOk result (all.new.amount ≡ 0) }
-    ensures empty { OnOk result (All (λ s. s.notes.items ≡ []) seats.new.items) }
-{
-    'adding: for _number in 0..count {
-        seats.push(Seat::new(alloc, all.split_off(1, 0)))?;
-    }
-    Ok(())
-}
-
 /// A place to sleep for each thread.
-fn condvars(alloc: Global) -> Result<Vec<Condvar>, AllocError>
+pub(crate) fn condvars(alloc: Global) -> Result<Vec<Condvar>, AllocError>
     ensures { IfOk result (λ condvars. vec_len condvars ≡ THREADS) }
 {
     let mut condvars = Vec::new(alloc);

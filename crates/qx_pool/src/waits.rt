@@ -18,8 +18,17 @@ pub(crate) const THREADS: usize = Limits::USERS * EACH;
 pub(crate) enum Awaited {
     /// An item in any line.
     Item,
-    /// That a thread waits for no answer.
-    Answer(Thread),
+    /// What comes to a thread.
+    OfThread(Coming, Thread),
+}
+
+/// What a client waits for.
+#[derive(Clone, Copy, Debug, PartialEq, Eq)]
+pub(crate) enum Coming {
+    /// That the thread waits for no answer.
+    Answer,
+    /// That its process has a pulse, or is there no longer. The process' first thread stands for all of them.
+    Pulse,
 }
 
 /// Which worker is woken as the lock is let go.
@@ -41,7 +50,7 @@ pub(crate) struct ThreadSet {
     bits: u64,
 }
 
-/// The threads for whose answers clients wait, of each user.
+/// The threads for which clients wait, of each user.
 #[derive(Drop)]
 pub(crate) struct Waits {
     /// Under each number that a user can have the bits of the user's threads.
@@ -95,6 +104,13 @@ impl ThreadSet {
         ThreadSet { user, bits: 0 }
     }
 
+    /// Whose threads they are.
+    pub(crate) fn user(&self) -> User
+        ensures { result ≡ self.now.user }
+    {
+        self.user
+    }
+
     /// A thread of the user joins the set.
     pub(crate) fn insert(&mut self, thread: Thread)
         requires user { thread.proc.user ≡ self.old.user }
@@ -135,7 +151,7 @@ impl Waits {
         Waits { words: [0; 256] }
     }
 
-    /// A client waits for a thread's answer.
+    /// A client waits for a thread.
     pub(crate) fn insert(&mut self, thread: Thread)
         ensures waits { is_awaited self.new thread ≡ true }
         ensures others { (other : Thread) → is_awaited self.old other ≡ true → is_awaited self.new other ≡ true }

@@ -1,17 +1,15 @@
 //! The loop of a worker.
 
-ghost use Rattle.qx_pool.specs.Notes.{AddsOf};
+ghost use Rattle.qx_world.specs.Seats.{Works};
 
 use crate::locked::HeldCopy;
-use crate::seat::Seat;
-use crate::server::Server;
+use crate::server::ServerOf;
 use crate::spinner::Spinner;
 use crate::waits::Awaited;
 use qx_types::{Item, Outcome, Worker};
 use qx_wire::Parsed;
-use qx_world::{PerformFault, Work};
+use qx_world::{PerformFault, UnderLock, Work};
 use std::sync::Wait;
-use std::sync::ledger::Ledger;
 
 /// What a worker does between the receiving of an item and its performing. It holds no lock then.
 pub trait Gate {
@@ -23,18 +21,18 @@ pub trait Clock {
     fn moment(&self) -> u64;
 }
 
-/// A worker receives items and performs them until the server is stopped and all lines are empty, and gives its seat back. It
-/// serves the RAM manager's line first, and begins with what it holds. A loop whose worker is no worker of the server, or
+/// A worker receives items and performs them until the server is stopped and all lines are empty, and gives its seat back. Which line
+/// it serves is told by what lies under the lock; it begins with what it holds. A loop whose worker is no worker of the server, or
 /// holds what another loop took, ends at once; one that wants memory stops the server, and what it holds it holds.
-pub fn worker_loop<L: Ledger, G: Gate, C: Clock, R: Wait>(
+pub fn worker_loop<S: UnderLock, G: Gate, C: Clock, R: Wait>(
     rt: &R,
-    server: &Server<L>,
-    seat: Seat<L>,
+    server: &ServerOf<S>,
+    seat: S::Seat,
     worker: Worker,
     gate: &G,
     clock: &C,
-) -> Seat<L>
-    ensures { AddsOf worker.0 seat.notes.items result.notes.items }
+) -> S::Seat
+    ensures { Works S.adds S.keeps worker.0 seat result }
 {
     let mut seat = seat;
     let mut spinner = Spinner::new();
@@ -55,14 +53,14 @@ pub fn worker_loop<L: Ledger, G: Gate, C: Clock, R: Wait>(
 }
 
 /// Performs what the worker holds, if anything. False where the loop ends, as one does whose worker is none.
-fn resume<L: Ledger, C: Clock, R: Wait>(
+fn resume<S: UnderLock, C: Clock, R: Wait>(
     rt: &R,
-    server: &Server<L>,
-    seat: &mut Seat<L>,
+    server: &ServerOf<S>,
+    seat: &mut S::Seat,
     worker: Worker,
     clock: &C,
 ) -> bool
-    ensures { AddsOf worker.0 seat.old.notes.items seat.new.notes.items }
+    ensures { Works S.adds S.keeps worker.0 seat.old seat.new }
 {
     let guard = server.lock(rt);
     let is_worker = guard.is_worker(worker);
@@ -83,17 +81,17 @@ fn resume<L: Ledger, C: Clock, R: Wait>(
 
 /// Waits for an item, takes it, and copies it; where another one stands in a line, one more worker is woken. None where the
 /// loop ends.
-fn receive<L: Ledger, R: Wait>(
+fn receive<S: UnderLock, R: Wait>(
     rt: &R,
-    server: &Server<L>,
-    seat: &mut Seat<L>,
+    server: &ServerOf<S>,
+    seat: &mut S::Seat,
     worker: Worker,
     spinner: &mut Spinner,
 ) -> Option<(Item, HeldCopy)>
-    ensures { AddsOf worker.0 seat.old.notes.items seat.new.notes.items }
+    ensures { Works S.adds S.keeps worker.0 seat.old seat.new }
 {
     let mut guard = server.lock_for(rt, spinner, Awaited::Item);
-    let manager = guard.world().next_manager()?;
+    let manager = guard.under.next_manager()?;
     let received = guard.receive(seat, worker, manager);
     let woken = guard.woken();
     drop(guard);
@@ -108,20 +106,20 @@ fn receive<L: Ledger, R: Wait>(
 }
 
 /// Performs what the worker holds, and wakes who was answered by that. False where the loop ends.
-fn perform<L: Ledger, C: Clock, R: Wait>(
+fn perform<S: UnderLock, C: Clock, R: Wait>(
     rt: &R,
-    server: &Server<L>,
-    seat: &mut Seat<L>,
+    server: &ServerOf<S>,
+    seat: &mut S::Seat,
     worker: Worker,
     work: Work,
     clock: &C,
 ) -> bool
-    ensures { AddsOf worker.0 seat.old.notes.items seat.new.notes.items }
+    ensures { Works S.adds S.keeps worker.0 seat.old seat.new }
 {
     let moment = clock.moment();
     let mut guard = server.lock(rt);
     let user = guard.user_of_work(worker);
-    let done = guard.perform(seat, worker, &work, moment);
+    let done = guard.under.perform(seat, worker, &work, moment);
     let released = user.map(|user| guard.released(user));
     drop(guard);
     if let Some(released) = released {

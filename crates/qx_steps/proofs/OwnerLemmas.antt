@@ -9,8 +9,8 @@ use Rattle.qx_machine.specs.Laws.{IsSettled}
 use Rattle.qx_machine.specs.Machine.{World, boot, own_held, step}
 use Rattle.qx_machine.specs.Processes.{Process}
 use Rattle.qx_machine.specs.Resources.{Resources}
-use Rattle.qx_machine.specs.Runs.{world_after}
 use Rattle.qx_isolation.specs.Rows.{row_at}
+use Rattle.qx_machine.proofs.Runs.{world_after-append}
 use Rattle.qx_machine.proofs.Settled.{run_settled, settled-left}
 use Rattle.qx_process.proofs.RowLemmas.{set-row}
 use Rattle.qx_resources.specs.State.{told, Kept}
@@ -19,11 +19,6 @@ use Rattle.qx_chan.proofs.RowReads.{option_cases}
 use Rattle.qx_steps.specs.inner.Parts.{parts_of, told_all, world_of, AreResourcesOf, IsSound}
 use Rattle.qx_steps.proofs.LeftLemmas.{AreLeft}
 use Rattle.qx_steps.proofs.PartsLemmas.{mapped-put, part-none, parts-set_both, parts-set_processes, row_at-parts, told-there}
-
--- one step more
-pub world_after-append : (w : World) (steps : List Step) (e : Step) → world_after w (steps ++ e ∷ []) ≡ (step (world_after w steps) e).world
-world_after-append w [] e = refl
-world_after-append w (first ∷ steps) e = world_after-append (step w first).world steps e
 
 -- nothing is left to be settled in a sound world
 pub settled_sound : (config : Configuration) (c : Channel) (ks : List (Option Kept)) (hands : List (Option Held)) → IsSound config c ks hands → IsSettled (world_of config c ks hands)

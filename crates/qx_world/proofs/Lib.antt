@@ -2,3 +2,5 @@
 mod LoanLemmas
 -- what a trace holds of its run
 mod TraceLemmas
+-- which outcomes steps have
+pub mod OutcomeLemmas

@@ -1,9 +1,9 @@
 -- The trace of a run: its configuration, its steps, and for how many more it has memory.
-use Rattle.std.specs.Prelude.{◌≡◌, ℕ, ◌+◌, ◌≤◌, Bool, List, [], ◌∷◌, ◌++◌, if◌then◌else◌}
+use Rattle.std.specs.Prelude.{◌≡◌, ℕ, ◌+◌, ◌≤◌, Bool, List, [], ◌∷◌, ◌++◌, Option, if◌then◌else◌}
 use Rattle.qx_types.specs.Configuration.{Configuration}
 use Rattle.qx_types.specs.declared.outcome.Outcome.{Outcome}
 use Rattle.qx_types.specs.declared.step.Step.{Step}
-use Rattle.qx_machine.specs.Machine.{step}
+use Rattle.qx_machine.specs.Machine.{World, owner, step}
 use Rattle.qx_machine.specs.Runs.{Run, run}
 
 -- a configuration and the steps taken from boot; `room` more can be stored without more memory for the trace itself
@@ -15,6 +15,11 @@ pub record Trace : Type 0 where
 -- the run that a trace is the trace of
 abbrev pub run_of : Trace → Run
 run_of trace = run trace.config trace.steps
+
+-- by or for whom each step is taken, from a world on
+abbrev pub owners_from : World → List Step → List (Option ℕ)
+owners_from w [] = []
+owners_from w (e ∷ steps) = owner w e ∷ owners_from (step w e).world steps
 
 -- after a call that stores a step, or does not
 pub record IsAfter (before : Trace) (e : Step) (stored : Bool) (after : Trace) : Type 0 where

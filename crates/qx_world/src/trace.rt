@@ -1,6 +1,6 @@
 //! A world with the steps that it took from boot, each with its outcome.
 
-ghost use Rattle.std.specs.Prelude.{◌≡◌, ◌≢◌, ◌≤◌, ◌<◌, ◌++◌, ◌∷◌, [], List, length, IfOk, IfErr, OnOk, IsOk, IsErrOf, ◌↔◌, IsFalse, option_map, None, slice_index_or, is_ok, Err};
+ghost use Rattle.std.specs.Prelude.{◌≡◌, ◌≢◌, ◌≤◌, ◌<◌, ◌++◌, ◌∷◌, [], List, length, IfOk, IfErr, OnOk, IsOk, IsErrOf, ◌↔◌, IsFalse, map, option_map, None, slice_index_or, is_ok, Err};
 ghost use Rattle.std.specs.Option.{option_to_list};
 ghost use Rattle.std.specs.Borrow.{sem};
 ghost use Rattle.qx_types.specs.declared.step.Step.{Step};
@@ -12,8 +12,7 @@ ghost use Rattle.qx_machine.specs.Wants.{wants_memory};
 ghost use Rattle.qx_types.specs.Step.{actor_of};
 ghost use Rattle.qx_steps.specs.declared.work.PerformFault.{PerformFault};
 ghost use Rattle.qx_steps.specs.Held.{held_work, IsStale};
-ghost use Rattle.qx_world.specs.Trace.{IsAfter, IsLast, run_of, outcome_now};
-ghost use Rattle.qx_world.specs.inner.Trace.{owners_from};
+ghost use Rattle.qx_world.specs.Trace.{IsAfter, IsLast, run_of, outcome_now, owners_from};
 
 use qx_machine::{Entry, Seen, laws};
 use qx_steps::{PerformFault, Work, World};
@@ -97,6 +96,13 @@ impl Traced {
         ensures { result.now ≡ (run_of self.now).entries }
     {
         &self.entries
+    }
+
+    /// By or for whom each step was taken.
+    pub fn owners(&self) -> &[Option<User>]
+        ensures { map (option_map (λ user. user.0)) result.now ≡ owners_from (machine.boot self.now.config) self.now.steps }
+    {
+        &self.owners
     }
 
     /// Makes room for more steps: each of the next ones is stored for sure, as far as it wants no memory itself. None is

@@ -1,14 +1,14 @@
-//! Tests of the crates below the channel, of a traced world, of worker threads and of the shell through their public calls,
-//! and an example of a caller of a trace (`docs/CALLING.md`).
+//! Tests of a traced world, of worker threads and of the shell through their public calls, and an example of a caller of a
+//! trace (`docs/CALLING.md`).
 //!
 //! - `script.rt`, `same.rt`: the tests' steps, from lines of a script; two traces compared by all that can be seen of
 //!   them
 //! - `memory.rt`, `rows.rt`: steps whose memory is refused; their lines
 //! - `reads.rt`: what a script does not ask a trace and a world for
-//! - `nodes.rt`: a node of `Queues` that comes back
 //! - `calling.rt`, `asked.rt`: the example, a request that is taken from its call to its answer; its test
+//! - `running.rt`: a world that runs on with a recorder
+//! - `tied.rt`: the same at whose seats steps are taken
 //! - `pool.rt`: worker threads round one lock
-//! - `lower_tests.rt`: what is below the channel
 //! - `shell.rt`: the shell's edge
 #![tactic(auto)]
 
@@ -17,11 +17,7 @@ mod asked;
 #[cfg(test)]
 mod calling;
 #[cfg(test)]
-mod lower_tests;
-#[cfg(test)]
 mod memory;
-#[cfg(test)]
-mod nodes;
 #[cfg(test)]
 mod pool;
 #[cfg(test)]
@@ -29,8 +25,12 @@ mod reads;
 #[cfg(test)]
 mod rows;
 #[cfg(test)]
+mod running;
+#[cfg(test)]
 mod same;
 #[cfg(test)]
 mod script;
 #[cfg(test)]
 mod shell;
+#[cfg(test)]
+mod tied;

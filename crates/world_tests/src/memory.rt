@@ -4,34 +4,12 @@ use crate::reads::{RECEIVE, held};
 use crate::rows::ROWS;
 use crate::same::{is_same, is_same_received, is_same_so_far};
 use crate::script::{booted, ran, steps, store, store_all};
-use all_memory::take_all_memory;
+use all_memory::{at_last, take_all_memory};
 use qx_machine::Entry;
 use qx_types::{NoMemory, Outcome, Step, User};
 use qx_world::{Traced, Work};
 use std::alloc::{AllocError, Global};
 use std::process::Abort;
-
-/// More than there are pieces of memory.
-const MORE: u32 = 1 << 20;
-
-/// Asks while these pieces of memory are kept, and again with one of them less at each time, the smallest first, until
-/// something is given; and whether it was refused at first.
-pub(crate) fn at_last<T: Drop, F: FnMut() -> Option<T>>(
-    mut pieces: Vec<Vec<u8>>,
-    mut ask: F,
-) -> Option<(T, bool)>
-    requires { F.IsAlwaysCallable ask }
-{
-    let mut is_refused = false;
-    for _ in 0..MORE {
-        if let Some(given) = ask() {
-            return Some((given, is_refused));
-        }
-        is_refused = true;
-        pieces.pop();
-    }
-    None
-}
 
 /// How the steps of a run are refused memory.
 #[derive(Clone, Copy, PartialEq, Eq)]
@@ -96,7 +74,7 @@ const LARGE: usize = 1 << 26;
 /// Takes all memory but small pieces, so that to take all that is left is quick.
 fn take_most_memory(alloc: Global) -> Result<Vec<Vec<u8>>, AllocError> {
     let mut pieces = take_all_memory(alloc)?;
-    for _ in 0..MORE {
+    for _ in 0..pieces.len() {
         if !pieces.last().is_some_and(|piece| piece.capacity() < LARGE) {
             break;
         }

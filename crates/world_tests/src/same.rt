@@ -39,7 +39,8 @@ fn is_same_entry(one: &Entry, other: &Entry) -> bool {
     one.step == other.step && one.outcome == other.outcome
 }
 
-fn is_same_world(one: &World, other: &World) -> bool {
+/// Whether what each worker holds, which threads are answered and blocked, and how many items wait in each line are the same.
+pub(crate) fn is_same_world(one: &World, other: &World) -> bool {
     has_same_worker(one, other, Worker(1))
         && has_same_worker(one, other, Worker(2))
         && (0..128).all(|number| has_same_thread(one, other, thread(number)))

@@ -1,19 +1,15 @@
 -- What only the proofs need of Trace.
-use Rattle.std.specs.Prelude.{◌≡◌, ℕ, List, [], ◌∷◌, Option, option_map, map}
+use Rattle.std.specs.Prelude.{◌≡◌, List, Option, option_map, map}
 use Rattle.qx_types.specs.declared.names.User.{User}
 use Rattle.qx_types.specs.declared.step.Step.{Step}
 use Rattle.qx_isolation.specs.declared.rows.Entry.{Entry}
-use Rattle.qx_machine.specs.Machine.{World, boot, step, owner}
+use Rattle.qx_machine.specs.Machine.{World, boot}
 use Rattle.qx_machine.specs.Runs.{run}
+use Rattle.qx_world.specs.Trace.{owners_from}
 
 -- the steps that were stored
 abbrev pub steps_of : List Entry → List Step
 steps_of entries = map (λ entry. entry.step) entries
-
--- by or for whom each step is taken, from a world on
-abbrev pub owners_from : World → List Step → List (Option ℕ)
-owners_from w [] = []
-owners_from w (e ∷ steps) = owner w e ∷ owners_from (step w e).world steps
 
 -- the world, the entries and the owners are those of the run of the stored steps
 pub record IsRun (world : World) (entries : List Entry) (owners : List (Option User)) : Type 0 where

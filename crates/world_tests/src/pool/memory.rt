@@ -3,12 +3,12 @@
 
 ghost use Rattle.std.specs.Prelude.{◌≡◌, ◌+◌};
 
-use crate::memory::at_last;
 use crate::pool::acts::Signals;
 use crate::pool::runs::{run, thread};
+use crate::pool::servers::BOTH;
 use crate::same::is_same;
 use crate::script::{self, config, ran, steps};
-use all_memory::take_all_memory;
+use all_memory::{at_last, take_all_memory};
 use qx_pool::{CallEnd, Client, Seat, Server, finish, worker_loop};
 use qx_types::{Bytes, Config, NoMemory, Request, Step, Worker};
 use std::alloc::{AllocError, Global};
@@ -40,16 +40,18 @@ const BOB: &str = "\
     read bob.1.1 3 50\n\
     exit bob.1\n";
 
-/// Each call ends, with what its last step told unless the server was stopped or memory was short, the trace is whole, and
-/// who calls where a loop has ended is told that the server was stopped. Where the server could not be made there is
+/// At both servers each call ends, with what its last step told unless the server was stopped or memory was short, the run is
+/// whole, and who calls where a loop has ended is told that the server was stopped. Where the server could not be made there is
 /// nothing to see.
 #[test]
 fn each_request_refused(rt: HostRuntime) {
     let users = "user ann\nuser bob\nworkers 2\n";
     let workers = ["work 1\nstat ann.1.1 /ann", "work 2\nstat ann.1.1 /ann"];
-    if let Ok(ran) = run(&rt, rt.alloc(), users, None, &[ANN, BOB], &workers) {
-        assert!(rt; ran.has_ended(2, &[CallEnd::Stopped]));
-        assert!(rt; ran.has_ended(3, &[CallEnd::Stopped]));
+    for on in BOTH {
+        if let Ok(ran) = run(&rt, rt.alloc(), on, users, None, &[ANN, BOB], &workers) {
+            assert!(rt; ran.has_ended(2, &[CallEnd::Stopped]));
+            assert!(rt; ran.has_ended(3, &[CallEnd::Stopped]));
+        }
     }
 }
 

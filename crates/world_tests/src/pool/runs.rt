@@ -1,14 +1,13 @@
 //! A run of a server with a thread for each of some texts, and what came of it.
 
-ghost use Rattle.std.specs.Prelude.{◌≡◌, ◌+◌};
-
 use crate::pool::acts::{Act, Signals, read};
+use crate::pool::servers::{On, serve, serve_on};
 use qx_machine::{Entry, Seen};
 use qx_play::text::push_transcript;
-use qx_pool::{CallEnd, Client, FinishFault, Note, Seat, Server, finish, worker_loop};
+use qx_pool::{CallEnd, ClientOf, Note, Seat, ServerOf, UnderLock, worker_loop};
 use qx_script::{Script, parse};
-use qx_types::{Actor, Config, Item, NoMemory, Outcome, Prio, Proc, Step, Thread, User};
-use qx_world::Traced;
+use qx_types::{Actor, Item, NoMemory, Outcome, Prio, Proc, Step, Thread, User};
+use qx_world::{Traced, World};
 use std::alloc::Global;
 use std::marker::Brand;
 use std::process::Abort;
@@ -16,20 +15,39 @@ use std::sync::Wait;
 use std::sync::atomic::AtomicU64;
 use std::sync::ledger::{Blank, Ledger};
 use std::thread;
-use std::thread::{JoinHandle, Threads};
+use std::thread::{JoinHandle, Scope, Threads};
 
 /// What a thread is to do, and how its calls ended, for which there is room.
 #[derive(Drop)]
-struct Role {
+pub(crate) struct Role {
     acts: Vec<Act>,
     ends: Vec<CallEnd>,
 }
 
-/// What came of a run: how the calls of each thread ended, the clients' first.
+/// What came of a run: the trace, unless it was of a service whose recorder cut a step, and how the calls of each thread ended,
+/// the clients' first.
 #[derive(Drop)]
 pub(crate) struct Ran {
-    pub(crate) traced: Traced,
-    ends: Vec<Vec<CallEnd>>,
+    pub(crate) traced: Option<Traced>,
+    pub(crate) ends: Vec<Vec<CallEnd>>,
+}
+
+/// What a seat tells of calls.
+pub(crate) trait Tells {
+    /// Whether a call that was made there ended so, as far as the seat knows.
+    fn tells(&self, end: &CallEnd) -> bool;
+}
+
+impl<L: Ledger> Tells for Seat<L> {
+    fn tells(&self, end: &CallEnd) -> bool {
+        is_told(end, self.notes())
+    }
+}
+
+impl Tells for () {
+    fn tells(&self, _end: &CallEnd) -> bool {
+        true
+    }
 }
 
 /// A thread of a user's first process.
@@ -54,31 +72,39 @@ fn is_told(end: &CallEnd, notes: &[Note]) -> bool {
 }
 
 /// Takes a step, if it is a client's. Whether it was `WrongState`.
-fn take<L: Ledger>(rt: &impl Wait, server: &Server<L>, client: &mut Client<L>, step: Step) -> bool {
+fn take<S: UnderLock>(
+    rt: &impl Wait,
+    server: &ServerOf<S>,
+    client: &mut ClientOf<S>,
+    step: Step,
+) -> bool {
     step.is_client() && matches!(client.step(rt, server, step), Ok(Outcome::WrongState))
 }
 
 /// Does all that a thread is to do at its seat, and tells how its calls ended.
-fn play<L: Ledger, R: Wait>(
+fn play<S: UnderLock, R: Wait>(
     rt: &R,
-    server: &Server<L>,
+    server: &ServerOf<S>,
     signals: &Signals,
-    seat: Seat<L>,
+    seat: S::Seat,
     role: Role,
-) -> (Seat<L>, Vec<CallEnd>) {
+) -> (S::Seat, Vec<CallEnd>)
+where
+    S::Seat: Tells,
+{
     let Role { acts, mut ends } = role;
-    let mut helper = Client::new(seat, thread(1, 1));
+    let mut helper = ClientOf::new(seat, thread(1, 1));
     for act in acts {
         match act {
             Act::Take(Step::Call { thread, request }) => {
-                let mut client = Client::new(helper.into_seat(), thread);
+                let mut client = ClientOf::new(helper.into_seat(), thread);
                 let end = client.call(rt, server, request);
                 let seat = client.into_seat();
-                if !is_told(&end, seat.notes()) {
+                if !seat.tells(&end) {
                     signals.fail();
                 }
                 let _ = ends.push(end);
-                helper = Client::new(seat, thread);
+                helper = ClientOf::new(seat, thread);
             }
             Act::Take(step) => {
                 take(rt, server, &mut helper, step);
@@ -90,7 +116,7 @@ fn play<L: Ledger, R: Wait>(
             Act::Work(worker) => {
                 let seat = helper.into_seat();
                 let seat = worker_loop(rt, server, seat, worker, signals, signals);
-                helper = Client::new(seat, thread(1, 1));
+                helper = ClientOf::new(seat, thread(1, 1));
             }
             Act::Await(count) => signals.wait_for(rt, count),
             Act::Raise => signals.raise(),
@@ -100,91 +126,68 @@ fn play<L: Ledger, R: Wait>(
     (helper.into_seat(), ends)
 }
 
-/// A server and all its seats, once they were handed back since one seat was kept. None where they were not.
-fn handed_back<L: Ledger>(
-    server: Server<L>,
-    mut seats: Vec<Seat<L>>,
-) -> Option<(Server<L>, Vec<Seat<L>>)> {
-    let kept = seats.pop()?;
-    let Err(FinishFault::Missing(server, mut seats)) = finish(server, seats) else {
-        return None;
-    };
-    seats.push(kept).ok()?;
-    Some((server, seats))
-}
-
 /// The seats, and for each role how its calls ended, for which there is room.
-type Played<L> = (Vec<Seat<L>>, Vec<Vec<CallEnd>>);
+pub(crate) type Played<S> = (Vec<<S as UnderLock>::Seat>, Vec<Vec<CallEnd>>);
 
 /// Plays each role in a thread at a seat, and stops the server once the first `callers` of them have ended.
-fn play_all<'a, L: Ledger + Send + Sync, R: Threads + Wait + Sync>(
+pub(crate) fn play_all<'a, S: UnderLock + Send, R: Threads + Wait + Sync>(
     rt: &'a R,
-    server: &'a Server<L>,
+    server: &'a ServerOf<S>,
     signals: &'a Signals,
     callers: usize,
     roles: Vec<Role>,
-    mut running: Vec<JoinHandle<(Seat<L>, Vec<CallEnd>)>>,
-    played: Played<L>,
-) -> Played<L> {
+    running: Vec<JoinHandle<(S::Seat, Vec<CallEnd>)>>,
+    played: Played<S>,
+) -> Played<S>
+where
+    S::Seat: Tells + Send,
+{
     thread::scope(thread::scope_env(), rt, move |scope| {
-        let (mut seats, mut ends) = played;
-        for role in roles {
-            let Some(seat) = seats.pop() else {
-                break;
-            };
-            match scope.spawn(move || play(rt, server, signals, seat, role)) {
-                Ok(thread) => drop(running.push(thread)),
-                Err(_) => server.stop(rt),
-            }
-        }
-        for thread in running {
-            if ends.len() == callers {
-                server.stop(rt);
-            }
-            let (seat, ended) = thread.join(rt);
-            let _ = seats.push(seat);
-            let _ = ends.push(ended);
-        }
-        (seats, ends)
+        play_in(rt, scope, server, signals, callers, roles, running, played)
     })
 }
 
-/// Runs a server with so many clients' seats, which was handed back before, and is once more before the trace is taken. None
-/// where it was not, or the trace is not whole.
-fn serve<L: Ledger + Send + Sync, R: Threads + Wait + Sync>(
-    rt: &R,
-    alloc: Global,
-    blank: Blank,
-    config: Config,
-    clients: usize,
-    roles: Vec<Role>,
+/// The same in a scope, which lets the threads borrow the server.
+fn play_in<'s, E, S: UnderLock + Send, R: Threads + Wait + Sync>(
+    rt: &'s R,
+    scope: &Scope<'s, E>,
+    server: &'s ServerOf<S>,
+    signals: &'s Signals,
     callers: usize,
-    signals: &Signals,
-) -> Result<Option<Ran>, NoMemory>
-    requires name { blank.name ≡ L.name }
-    requires parts { blank.parts ≡ L.parts }
-    requires seats { blank.parts ≡ config.workers + clients }
+    roles: Vec<Role>,
+    mut running: Vec<JoinHandle<(S::Seat, Vec<CallEnd>)>>,
+    played: Played<S>,
+) -> Played<S>
+where
+    S::Seat: Tells + Send,
 {
-    let ends = Vec::with_capacity(alloc, roles.len())?;
-    let running = Vec::with_capacity(alloc, roles.len())?;
-    let (server, seats) = Server::<L>::new(alloc, blank, config, clients)?;
-    let Some((server, seats)) = handed_back(server, seats) else {
-        return Ok(None);
-    };
-    let played = (seats, ends);
-    let (seats, ends) = play_all(rt, &server, signals, callers, roles, running, played);
-    let Some((server, seats)) = handed_back(server, seats) else {
-        return Ok(None);
-    };
-    let traced = finish(server, seats).ok();
-    Ok(traced.map(|traced| Ran { traced, ends }))
+    let (mut seats, mut ends) = played;
+    for role in roles {
+        let Some(seat) = seats.pop() else {
+            break;
+        };
+        match scope.spawn(move || play(rt, server, signals, seat, role)) {
+            Ok(thread) => drop(running.push(thread)),
+            Err(_) => server.stop(rt),
+        }
+    }
+    for thread in running {
+        if ends.len() == callers {
+            server.stop(rt);
+        }
+        let (seat, ended) = thread.join(rt);
+        let _ = seats.push(seat);
+        let _ = ends.push(ended);
+    }
+    (seats, ends)
 }
 
-/// Runs a server for the users whom the first lines of a script name, with a thread for each client and each worker. Asserts
-/// that the trace is whole, that nobody waited in vain, and that each call was told its end.
+/// Runs one of both servers for the users whom the first lines of a script name, with a thread for each client and each worker.
+/// Asserts that the run is whole, that nobody waited in vain, and that each call was told its end.
 pub(crate) fn run<R: Threads + Wait + Abort + Sync>(
     rt: &R,
     alloc: Global,
+    on: On,
     users: &str,
     held: Option<(Item, u64)>,
     clients: &[&str],
@@ -208,12 +211,25 @@ pub(crate) fn run<R: Threads + Wait + Abort + Sync>(
     let spare = roles.len().saturating_sub(own);
     let blank = Blank::new((own + spare) as u64);
     let callers = clients.len();
-    let ran = serve::<Brand, R>(rt, alloc, blank, config, spare, roles, callers, &signals)?;
+    let ran = match on {
+        On::Pool => serve::<Brand, R>(rt, alloc, blank, config, spare, roles, callers, &signals)?,
+        On::Service => serve_on(rt, alloc, config, roles, callers, &signals)?,
+    };
     assert!(rt; !signals.have_failed());
-    Ok(ran.expect(rt, "a whole trace"))
+    Ok(ran.expect(rt, "a whole run"))
 }
 
 impl Ran {
+    /// The trace.
+    pub(crate) fn traced(&self, rt: &impl Abort) -> &Traced {
+        self.traced.as_ref().expect(rt, "a trace")
+    }
+
+    /// The world that the steps came to.
+    pub(crate) fn world(&self, rt: &impl Abort) -> &World {
+        self.traced(rt).world()
+    }
+
     /// Whether the calls of a thread ended so.
     pub(crate) fn has_ended(&self, place: usize, ends: &[CallEnd]) -> bool {
         match self.ends.get(place) {
@@ -230,8 +246,9 @@ impl Ran {
         user: User,
         lines: &str,
     ) -> Result<(), NoMemory> {
-        let alone = self.traced.erased(user)?;
-        for traced in [&self.traced, &alone] {
+        let whole = self.traced(rt);
+        let alone = whole.erased(user)?;
+        for traced in [whole, &alone] {
             assert!(rt; shown(alloc, traced, user)?.as_slice() == lines.as_bytes());
         }
         Ok(())

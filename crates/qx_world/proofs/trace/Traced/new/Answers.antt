@@ -1,5 +1,6 @@
 use Rattle.std.proofs.Common.{◌∙◌, ap}
-use Rattle.qx_world.proofs.TraceLemmas.{boot-config, is_run-boot}
+use Rattle.qx_machine.proofs.Runs.{boot-config}
+use Rattle.qx_world.proofs.TraceLemmas.{is_run-boot}
 use Rattle.qx_world.proofs.trace.Traced.new.Goals as goal
 
 pub invariant_of-result : goal.invariant_of-result

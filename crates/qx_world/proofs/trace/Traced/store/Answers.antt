@@ -1,6 +1,7 @@
 use Rattle.std.proofs.Common.{[], ◌∷◌, ◌++◌, ◌∙◌, ap, rules}
 use Rattle.std.proofs.lemmas.List.{map-append}
-use Rattle.qx_world.proofs.TraceLemmas.{is_run-stored, step-config}
+use Rattle.qx_machine.proofs.Runs.{step-config}
+use Rattle.qx_world.proofs.TraceLemmas.{is_run-stored}
 use Rattle.qx_world.proofs.trace.Traced.store.Goals as goal
 
 pub invariant_of-self-2 : goal.invariant_of-self-2

@@ -1,7 +1,8 @@
 use Rattle.std.proofs.Common.{[], ◌∷◌, ◌++◌, ◌∙◌, ap, rules}
 use Rattle.std.proofs.lemmas.List.{map-append}
 use Rattle.qx_types.specs.declared.step.Step.TheVariants.{Perform}
-use Rattle.qx_world.proofs.TraceLemmas.{is_run-stored, step-config}
+use Rattle.qx_machine.proofs.Runs.{step-config}
+use Rattle.qx_world.proofs.TraceLemmas.{is_run-stored}
 use Rattle.qx_world.proofs.trace.Traced.store_work.Goals as goal
 
 pub invariant_of-self-2 : goal.invariant_of-self-2

@@ -1,0 +1,57 @@
+//! What is written to a pump and read from it, as bytes.
+
+ghost use Rattle.std.specs.Prelude.{◌≡◌, ◌≢◌, ◌<◌, ◌==◌, IfOk, IfSome, Some, is_some, length};
+ghost use Rattle.pump.specs.Pump.{bytes_of, command_of, command_with, doing_of, plain_command, pump_of};
+ghost use Rattle.pump.specs.declared.Command.TheVariants as variant;
+
+use pump::{Command, Doing, Pump};
+use qx_types::Bytes;
+use std::alloc::{AllocError, Global};
+
+/// The bytes that tell a pump a command. A rate and a volume of 0 are none.
+pub fn bytes_of(alloc: Global, command: Command) -> Result<Bytes, AllocError>
+    ensures told { command ≢ variant.SetRate 0 → command ≢ variant.Fill 0 → IfOk result (λ bytes. command_of bytes ≡ Some command) }
+{
+    match command {
+        Command::Tick => Bytes::from_slice(alloc, &[0]),
+        Command::SetRate(rate) => with_number(alloc, 1, rate),
+        Command::Fill(volume) => with_number(alloc, 2, volume),
+        Command::Start => Bytes::from_slice(alloc, &[3]),
+        Command::Stop => Bytes::from_slice(alloc, &[4]),
+        Command::Silence => Bytes::from_slice(alloc, &[5]),
+    }
+}
+
+/// A command's number behind its code.
+fn with_number(alloc: Global, code: u8, number: u16) -> Result<Bytes, AllocError>
+    ensures { IfOk result (λ bytes. command_of bytes ≡ command_with code number) }
+{
+    let [low, high] = number.to_le_bytes();
+    Bytes::from_slice(alloc, &[code, low, high])
+}
+
+/// The pump that has these bytes; none has another number of them.
+pub fn pump_of(bytes: &[u8]) -> Option<Pump>
+    ensures told { IfSome result (λ pump. pump ≡ pump_of bytes.now) }
+    ensures some { is_some result ≡ (length bytes.now == 5) }
+{
+    match bytes {
+        [a, b, c, d, doing] => Some(Pump {
+            rate: u16::from_le_bytes([*a, *b]),
+            left: u16::from_le_bytes([*c, *d]),
+            doing: doing_of(*doing),
+        }),
+        _ => None,
+    }
+}
+
+/// What a pump does, by its byte.
+fn doing_of(byte: u8) -> Doing
+    ensures { result ≡ doing_of byte }
+{
+    match byte {
+        1 => Doing::Running,
+        2 => Doing::Alarm,
+        _ => Doing::Stopped,
+    }
+}

@@ -1,0 +1,148 @@
+//! Steps and outcomes, cut to what a recorder keeps of them. None of it wants memory. `Cut.antt` says what is kept.
+#![tactic(auto)]
+
+ghost use Rattle.std.specs.Prelude.{◌≡◌};
+ghost use Rattle.qx_cut.specs.Cut.{bytes_of_outcome, bytes_of_request, bytes_of_step, cut, cut_outcome, cut_request, cut_step};
+
+use qx_types::{Bytes, MessageBytes, Outcome, Request, Step};
+use std::alloc::Global;
+
+/// How many bytes a recorder keeps of a path, of what is written or sent, and of a reply: the first ones (this profile).
+pub const KEPT: usize = MessageBytes::INLINE;
+
+/// A step with each of its byte strings cut to the first `KEPT` bytes; all else stays. Memory of more is given back.
+pub fn cut_step(step: Step) -> Step
+    ensures { result ≡ cut_step step }
+{
+    match step {
+        Step::Call { thread, request } => Step::Call {
+            thread,
+            request: cut_request(request),
+        },
+        Step::Mount {
+            thread,
+            path,
+            manager,
+        } => Step::Mount {
+            thread,
+            path: cut(path),
+            manager,
+        },
+        other => other,
+    }
+}
+
+/// A copy of an outcome, with the bytes of a reply cut to the first `KEPT`.
+pub fn cut_outcome(alloc: Global, outcome: &Outcome) -> Outcome
+    ensures { result ≡ cut_outcome outcome.now }
+{
+    match outcome {
+        Outcome::Spawned(num) => Outcome::Spawned(*num),
+        Outcome::Refused(error) => Outcome::Refused(*error),
+        Outcome::Done => Outcome::Done,
+        Outcome::Sent => Outcome::Sent,
+        Outcome::Reply(status, bytes) => Outcome::Reply(*status, first_of(alloc, bytes.as_slice())),
+        Outcome::Failed(error) => Outcome::Failed(*error),
+        Outcome::Pulse(code, value) => Outcome::Pulse(*code, *value),
+        Outcome::NoPulse => Outcome::NoPulse,
+        Outcome::WrongState => Outcome::WrongState,
+        Outcome::Took(item) => Outcome::Took(*item),
+        Outcome::Idle => Outcome::Idle,
+        Outcome::Busy => Outcome::Busy,
+        Outcome::Handled => Outcome::Handled,
+        Outcome::Nothing => Outcome::Nothing,
+    }
+}
+
+/// How many bytes a step has: of a rename those of both paths, and none where its kind has none.
+pub fn bytes_of_step(step: &Step) -> usize
+    ensures { result ≡ bytes_of_step step.now }
+{
+    match step {
+        Step::Call { request, .. } => bytes_of_request(request),
+        Step::Mount { path, .. } => path.len(),
+        _ => 0,
+    }
+}
+
+/// How many bytes a reply has; an outcome that is none has no bytes.
+pub fn bytes_of_outcome(outcome: &Outcome) -> usize
+    ensures { result ≡ bytes_of_outcome outcome.now }
+{
+    match outcome {
+        Outcome::Reply(_, bytes) => bytes.as_slice().len(),
+        _ => 0,
+    }
+}
+
+/// The first bytes, in the memory that they stand in; all other memory is given back.
+fn cut(bytes: Bytes) -> Bytes
+    ensures { result ≡ cut bytes }
+{
+    let mut items = bytes.into_vec();
+    items.truncate(KEPT);
+    items.shrink_to_fit();
+    Bytes::from_vec(items)
+}
+
+/// A copy of the first bytes.
+fn first_of(alloc: Global, bytes: &[u8]) -> MessageBytes
+    ensures { result ≡ cut bytes.now }
+{
+    if bytes.len() <= KEPT {
+        return MessageBytes::inline(alloc, bytes);
+    }
+    MessageBytes::inline(alloc, &bytes[..KEPT])
+}
+
+/// A request with each of its byte strings cut.
+fn cut_request(request: Request) -> Request
+    ensures { result ≡ cut_request request }
+{
+    match request {
+        Request::OpenPath { flags, mode, path } => Request::OpenPath {
+            flags,
+            mode,
+            path: cut(path),
+        },
+        Request::StatPath { path } => Request::StatPath { path: cut(path) },
+        Request::Unlink { path } => Request::Unlink { path: cut(path) },
+        Request::Mkdir { mode, path } => Request::Mkdir {
+            mode,
+            path: cut(path),
+        },
+        Request::Rename { from, to } => Request::Rename {
+            from: cut(from),
+            to: cut(to),
+        },
+        Request::Write { coid, bytes } => Request::Write {
+            coid,
+            bytes: cut(bytes),
+        },
+        Request::List { coid, after } => Request::List {
+            coid,
+            after: cut(after),
+        },
+        Request::Raw { coid, bytes } => Request::Raw {
+            coid,
+            bytes: cut(bytes),
+        },
+        other => other,
+    }
+}
+
+/// How many bytes a request has.
+fn bytes_of_request(request: &Request) -> usize
+    ensures { result ≡ bytes_of_request request.now }
+{
+    match request {
+        Request::OpenPath { path, .. }
+        | Request::StatPath { path }
+        | Request::Unlink { path }
+        | Request::Mkdir { path, .. } => path.len(),
+        Request::Rename { from, to } => from.len().saturating_add(to.len()),
+        Request::Write { bytes, .. } | Request::Raw { bytes, .. } => bytes.len(),
+        Request::List { after, .. } => after.len(),
+        _ => 0,
+    }
+}

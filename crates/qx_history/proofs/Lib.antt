@@ -1,0 +1,4 @@
+-- beginnings of one list
+mod FrontLemmas
+-- the move that adds an entry
+mod AddLemmas

@@ -1,0 +1,16 @@
+use Rattle.std.proofs.Common.{◌≡◌, ◌∙◌, suc, ap, arith, drop, max, sym, add-one}
+use Rattle.qx_types.specs.Managers.{managers}
+use Rattle.qx_running.specs.Running.{greatest_urgency}
+use Rattle.qx_running.proofs.NextLemmas.{greatest_more}
+use Rattle.qx_running.proofs.running.Running.greatest_urgency.Goals as goal
+
+pub managers-preserved : goal.managers-preserved
+managers-preserved c =
+    let w = c.args.self.now.world in
+    let later = greatest_urgency w (drop (suc c.managers.number) managers) in
+    let three : max (max c.managers.most c.urgency.result) later ≡ max c.managers.most (max c.urgency.result later) = omega arith in
+    ap (λ n. max c.max-most.result (greatest_urgency w (drop n managers))) (add-one c.managers.number)
+    ∙ ap (λ most. max most later) c.max-most.ensures ∙ three
+    ∙ ap (λ here. max c.managers.most (max here later)) c.urgency.ensures
+    ∙ ap (max c.managers.most) (sym (greatest_more w managers c.managers.number))
+    ∙ c.managers.invariant

@@ -1,0 +1,14 @@
+//! A world that runs on with no list of its steps, and a recorder of the last ones.
+//!
+//! - `running.rt`: `Running`, the world with its recorder; `Recorded`, what that keeps of a step; `Piece`, what is read of it
+//! - `under_lock.rt`: a run under a server's lock
+//!
+//! `Running.antt` says what a step makes of a run, which manager is next and which steps are read, `Told.antt` what a server tells
+//! over a run. Of bytes the first ones are kept (`qx_cut`).
+#![tactic(auto)]
+
+pub mod running;
+pub mod under_lock;
+
+pub use qx_cut::KEPT;
+pub use running::{PIECE, Piece, Recorded, Running};

@@ -1,0 +1,6 @@
+-- which steps were taken, by the events
+mod EventLemmas
+-- a run, with one step more; its seats, one more
+mod RunLemmas
+-- what was done at a seat, and how much was tried there
+mod SeatLemmas

@@ -1,0 +1,151 @@
+//! A world that runs on with a recorder, beside a trace of the same steps.
+
+use crate::script::{config, ran, steps};
+use qx_machine::Entry;
+use qx_running::{Recorded, Running};
+use qx_types::{Bytes, Coid, Device, Manager, NoMemory, Proc, Request, Step, Thread, User};
+use qx_world::World;
+use std::alloc::Global;
+use std::process::Abort;
+
+/// A process opens its user's top twice.
+const OPENED: &str = "\
+    spawn ann 1 10\n\
+    open ann.1.1 /ann r 000\n\
+    receive 1 ram\n\
+    perform 1 5\n\
+    reply ann.1.1\n\
+    open ann.1.1 /ann r 000\n\
+    receive 1 ram\n\
+    perform 1 6\n\
+    reply ann.1.1\n";
+
+/// In three lines an item of one priority.
+const THREE_LINES: &str = "\
+    spawn ann 4 10\n\
+    mount ann.1.1 /ann/p pipe\n\
+    mount ann.1.1 /ann/l latch\n\
+    open ann.1.1 /ann r 000\n\
+    open ann.1.2 /ann/p/f rwc 600\n\
+    open ann.1.3 /ann/l r 000\n";
+
+/// An item of a higher priority stands in the first line.
+const HIGHER: &str = "\
+    spawn bob 1 20\n\
+    open bob.1.1 /bob r 000\n";
+
+/// Takes the steps of lines.
+fn run(rt: &impl Abort, alloc: Global, running: &mut Running, lines: &str) -> Result<(), NoMemory> {
+    for step in steps(rt, alloc, lines)? {
+        if running.take(step).is_err() {
+            return Err(NoMemory);
+        }
+    }
+    Ok(())
+}
+
+/// A run from boot of the steps of lines, with room for so many in the recorder.
+fn ran_on(rt: &impl Abort, alloc: Global, room: usize, lines: &str) -> Result<Running, NoMemory> {
+    let world = World::new(alloc, config(rt, alloc)?)?;
+    let Ok(mut running) = Running::new(alloc, world, room) else {
+        return Err(NoMemory);
+    };
+    run(rt, alloc, &mut running, lines)?;
+    Ok(running)
+}
+
+/// Whether these are the entries behind the first ones.
+fn are_last(recorded: &[Recorded], entries: &[Entry], skipped: usize) -> bool {
+    for (place, recorded) in recorded.iter().enumerate() {
+        match entries.get(skipped.saturating_add(place)) {
+            Some(entry)
+                if recorded.entry.step == entry.step && recorded.entry.outcome == entry.outcome =>
+                {}
+            _ => return false,
+        }
+    }
+    skipped.saturating_add(recorded.len()) == entries.len()
+}
+
+/// A recorder of so many keeps the last of the entries that a trace stores.
+fn keeps_last(rt: &impl Abort, alloc: Global, room: usize) -> Result<(), NoMemory> {
+    let traced = ran(rt, alloc, OPENED)?;
+    let running = ran_on(rt, alloc, room, OPENED)?;
+    let count = traced.entries().len();
+    let skipped = count.saturating_sub(room);
+    let piece = running.recent(0)?;
+    assert_eq!(rt; running.taken(), count as u64);
+    assert_eq!(rt; piece.first, skipped as u64 + 1);
+    assert!(rt; are_last(&piece.steps, traced.entries(), skipped));
+    Ok(())
+}
+
+#[test]
+fn keeps_the_last_steps(rt: HostRuntime) -> Result<(), NoMemory> {
+    keeps_last(&rt, rt.alloc(), 0)?;
+    keeps_last(&rt, rt.alloc(), 1)?;
+    keeps_last(&rt, rt.alloc(), 5)?;
+    keeps_last(&rt, rt.alloc(), 100)
+}
+
+/// A write of 100 bytes over the first connection of the first process.
+fn long_write(alloc: Global) -> Result<Step, NoMemory> {
+    let mut bytes = Vec::new(alloc);
+    for _ in 0..100 {
+        bytes.push(7u8)?;
+    }
+    let proc = Proc {
+        user: User(1),
+        num: 1,
+    };
+    Ok(Step::Call {
+        thread: Thread { proc, tid: 1 },
+        request: Request::Write {
+            coid: Coid(3),
+            bytes: Bytes::from_vec(bytes),
+        },
+    })
+}
+
+#[test]
+fn counts_what_was_cut(rt: HostRuntime) -> Result<(), NoMemory> {
+    let alloc = rt.alloc();
+    let mut running = ran_on(&rt, alloc, 5, "spawn ann 1 10\n")?;
+    if running.take(long_write(alloc)?).is_err() {
+        return Err(NoMemory);
+    }
+    let piece = running.recent(2)?;
+    assert_eq!(rt; piece.steps.len(), 1);
+    assert_eq!(rt; piece.steps[0].step_bytes, 100);
+    assert_eq!(rt; piece.steps[0].owner, Some(User(1)));
+    match &piece.steps[0].entry.step {
+        Step::Call {
+            request: Request::Write { bytes, .. },
+            ..
+        } => assert_eq!(rt; bytes.len(), 40),
+        _ => panic!(rt; "another step"),
+    }
+    Ok(())
+}
+
+#[test]
+fn serves_lines_in_turn(rt: HostRuntime) -> Result<(), NoMemory> {
+    let alloc = rt.alloc();
+    let mut running = ran_on(&rt, alloc, 0, THREE_LINES)?;
+    assert_eq!(rt; running.next_manager(), Some(Manager::Ram));
+    run(
+        &rt,
+        alloc,
+        &mut running,
+        "receive 1 ram\nperform 1 5\nreply ann.1.1\nopen ann.1.1 /ann r 000\n",
+    )?;
+    assert_eq!(rt; running.next_manager(), Some(Manager::Pipe));
+    run(&rt, alloc, &mut running, "receive 1 pipe\nperform 1 6\n")?;
+    assert_eq!(rt;
+        running.next_manager(),
+        Some(Manager::Device(Device::Latch))
+    );
+    run(&rt, alloc, &mut running, HIGHER)?;
+    assert_eq!(rt; running.next_manager(), Some(Manager::Ram));
+    Ok(())
+}
