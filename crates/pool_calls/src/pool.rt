@@ -11,7 +11,6 @@ use qx_pool::{
     Event, FinishFault, OfRun, Opened, Server, ServerOf, Service, TiedService, UnderLock, finish,
     worker_loop,
 };
-use qx_running::PIECE;
 use qx_types::{Config, Worker};
 use qx_world::{Traced, World};
 use std::alloc::{AllocError, Global};
@@ -195,8 +194,8 @@ fn run_at_seats<J: OfRun + Send + Sync, R: Threads + Wait + Clock + Sync>(
     for seat in &seats {
         known = known.saturating_add(usize::from(pool.server.holds(rt, seat)));
     }
-    let recorded = pool.server.recent(rt, 0)?.steps.len();
-    ensure!(recorded == room.min(PIECE), "a step is not recorded");
+    let piece = pool.server.recent(rt, 0)?;
+    ensure!(room == 0 || !piece.steps.is_empty(), "no step is recorded");
     let Pool { server, .. } = pool;
     let world = server.into_world();
     ensure!(world.next_manager().is_none(), "an item stands in a line");
