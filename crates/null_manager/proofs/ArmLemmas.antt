@@ -2,7 +2,7 @@
 use Rattle.std.proofs.Common.{◌≡◌, ◌<◌, inl, inr, ℕ, Bool, true, false, not, List, [], ◌∷◌, Option, Some, None, Ok, length-append, refl, ap, arith}
 use Rattle.std.specs.Prelude.{◌&&◌, filter, is_some, nat_lt}
 use Rattle.std.specs.List.{list_any}
-use Rattle.std.proofs.lemmas.Bool.{cases_Bool}
+use Rattle.std.proofs.lemmas.Bool.{cases_Bool, and_parts}
 use Rattle.std.proofs.lemmas.Bool.Decides.{nat_tests}
 use Rattle.qx_types.specs.declared.fields.NotifyAction.{NotifyAction}
 use Rattle.qx_types.specs.declared.fields.NotifyAction.TheVariants.{Poll, PollArm, TranArm}
@@ -19,10 +19,6 @@ use Rattle.qx_machine.specs.Wants.{is_done_so}
 use Rattle.qx_notify.specs.Events.{arms_event, wants_node}
 use Rattle.null_manager.specs.Null.{Told, got_events, holding, notify_deed}
 
-both-true : (a b : Bool) → (a && b) ≡ true → (a ≡ true) × (b ≡ true)
-both-true true b is = (refl, is)
-both-true false b is = let clash : false ≡ true = is in absurd (cc)
-
 not-true : (b : Bool) → not b ≡ true → b ≡ false
 not-true true is = let clash : false ≡ true = is in absurd (cc)
 not-true false is = refl
@@ -37,10 +33,10 @@ all-stay block (e ∷ es) none = elim (cases_Bool (is_on block e)) [
 
 module _ (event : Event) (events : Events) (wants : wants_node EVENTS event events ≡ true) where
   count-left : event_count (disarmed event.block events) ≡ event_count events
-  count-left = let own = both-true _ _ wants in ap (λ armed. event_count (record events { armed = armed })) (all-stay event.block events.armed (not-true _ own.0))
+  count-left = let own = and_parts _ _ wants in ap (λ armed. event_count (record events { armed = armed })) (all-stay event.block events.armed (not-true _ own.0))
 
   few : nat_lt (event_count (disarmed event.block events)) EVENTS ≡ true
-  few = rw count-left (both-true _ _ wants).1
+  few = rw count-left (and_parts _ _ wants).1
 
   pub one-more : nat_lt (event_count events) (event_count (armed_anew event events)) ≡ true
   one-more =
@@ -60,5 +56,5 @@ some-of None is = let clash : false ≡ true = is in absurd (cc)
 pub wanted : (own : Told) (opened : Opened) (action : NotifyAction) (wish : PulseWish) → is_some (row_at own.blocks opened.number) ≡ true → (arms_event action (event_of opened wish) holding && wants_node EVENTS (event_of opened wish) own.events) ≡ true → is_done_so got_events own (notify_deed own opened action wish) ≡ true
 wanted own opened action wish there arms =
     let event = event_of opened wish in
-    let each = both-true (arms_event action event holding) (wants_node EVENTS event own.events) arms in
+    let each = and_parts (arms_event action event holding) (wants_node EVENTS event own.events) arms in
     rw ((some-of (row_at own.blocks opened.number) there).1, armed event own.events each.1 action holding each.0) (one-more event own.events each.1)

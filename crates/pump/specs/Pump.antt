@@ -1,5 +1,5 @@
--- A syringe pump: it is given a rate, filled and started; each tick gives so much of what is left, and one that finds too little
--- left stops it with an alarm, which stands until it is silenced.
+-- A syringe pump: it is given a rate, filled and started; each tick gives so much of what is left, and the one that gives the last
+-- of it stops it with an alarm, which stands until it is silenced.
 --
 --   bytes     what is read
 --   0, 1      the rate: microlitres a tick, low byte first

@@ -9,7 +9,7 @@ pub struct Pump {
     pub doing: Doing,
 }
 
-/// What a pump does. An alarm stands from the tick that found too little left until it is silenced.
+/// What a pump does. An alarm stands from the tick that gave the last of what was left until it is silenced.
 #[derive(Clone, Copy, Debug, PartialEq, Eq)]
 pub enum Doing {
     Stopped,

@@ -2,12 +2,13 @@
 use Rattle.std.proofs.Common.{◌≡◌, ℕ, Bool, true, false, cond, List, [], ◌∷◌, Option, Some, None, refl, subst}
 use Rattle.std.specs.List.{list_all}
 use Rattle.std.specs.Str.{bytes_eq}
+use Rattle.std.proofs.lemmas.Bool.{and_parts, and_from}
 use Rattle.qx_types.specs.Configuration.{Configuration, IsConfiguration}
 use Rattle.qx_calls.specs.Forms.{CanBeSaid, CanBeWords, Form, Line, Maker, Saying, Values, at_most, end, line_text, read_form, read_one_of, read_words, words_for, words_said, ◌then◌}
 use Rattle.qx_calls.specs.inner.Forms.{made_of}
 use Rattle.qx_words.specs.Kinds.{is_word, value_of, value_text}
 use Rattle.qx_words.specs.Words.{words_of}
-use Rattle.qx_words.proofs.PlainWords.{and_true, both_true, words_again}
+use Rattle.qx_words.proofs.PlainWords.{words_again}
 use Rattle.qx_words.proofs.ReadKinds.{value_again, value_is_word, value_within}
 use Rattle.qx_words.proofs.ReadValues.{bind_some, mapped, of_some}
 
@@ -25,9 +26,9 @@ are_words_for : (form : Form) (config : Configuration) (values : Values form) �
     → list_all is_word (words_for form config values) ≡ true
 are_words_for end config values valid can = refl
 are_words_for (kind then form) config values valid can =
-    and_true (is_word (value_text kind config values.0)) _ (value_is_word kind config values.0 valid can.0) (are_words_for form config values.1 valid can.1)
+    and_from (is_word (value_text kind config values.0)) _ (value_is_word kind config values.0 valid can.0) (are_words_for form config values.1 valid can.1)
 are_words_for (at_most kind) config None valid can = refl
-are_words_for (at_most kind) config (Some value) valid can = and_true (is_word (value_text kind config value)) true (value_is_word kind config value valid can) refl
+are_words_for (at_most kind) config (Some value) valid can = and_from (is_word (value_text kind config value)) true (value_is_word kind config value valid can) refl
 
 words_within : {A : Type 0} (form : Form) (made : Maker form A) (users words : List (List ℕ)) (a : A) → list_all is_word words ≡ true
     → read_words form made users words ≡ Some a → (values : Values form) × CanBeWords form users values × (made_of form made values ≡ a)
@@ -35,14 +36,14 @@ words_within end made users [] a all is = (tt, tt, of_some made a is)
 words_within end made users (word ∷ words) a all is = cc
 words_within (kind then form) made users [] a all is = cc
 words_within (kind then form) made users (word ∷ words) a all is =
-    let words_are = both_true (is_word word) (list_all is_word words) all in
+    let words_are = and_parts (is_word word) (list_all is_word words) all in
     let value = bind_some (value_of kind users word) (λ value. read_words form (made value) users words) a is in
     let rest = words_within form (made value.0) users words a words_are.1 value.2 in
     ((value.0, rest.0), (value_within kind users word value.0 words_are.0 value.1, rest.1), rest.2)
 words_within (at_most kind) made users [] a all is = (None, tt, of_some (made None) a is)
 words_within (at_most kind) made users (word ∷ []) a all is =
     let value = mapped (λ value. made (Some value)) (value_of kind users word) a is in
-    (Some value.0, value_within kind users word value.0 (both_true (is_word word) true all).0 value.1, value.2)
+    (Some value.0, value_within kind users word value.0 (and_parts (is_word word) true all).0 value.1, value.2)
 words_within (at_most kind) made users (word ∷ other ∷ words) a all is = cc
 
 -- lines
@@ -57,7 +58,7 @@ line_within line users words a all is = words_within line.form line.made users w
 
 pub are_words : (config : Configuration) (saying : Saying) → IsConfiguration config.users config.workers → is_word saying.name ≡ true → CanBeSaid config.users saying
     → list_all is_word (words_said config saying) ≡ true
-are_words config saying valid name can = and_true (is_word saying.name) _ name (are_words_for saying.form config saying.values valid can)
+are_words config saying valid name can = and_from (is_word saying.name) _ name (are_words_for saying.form config saying.values valid can)
 
 pub text_in_words : (config : Configuration) (saying : Saying) → IsConfiguration config.users config.workers → is_word saying.name ≡ true → CanBeSaid config.users saying
     → words_of (line_text config saying) ≡ words_said config saying

@@ -4,6 +4,7 @@ use Rattle.qx_types.specs.declared.limits.TheConstants.Limits.{THREADS}
 use Rattle.std.proofs.lemmas.Grind.{common_steps}
 use Rattle.std.specs.List.{AllByRecursion, list_any, position_or_len}
 use Rattle.std.specs.Prelude.{option_map, if◌then◌else◌, nat_lt}
+use Rattle.std.proofs.lemmas.Bool.{or_parts}
 use Rattle.qx_types.specs.Managers.{manager_number}
 use Rattle.qx_types.specs.declared.names.Manager.{Manager}
 use Rattle.qx_types.specs.declared.names.Proc.{Proc}
@@ -28,7 +29,7 @@ use Rattle.qx_chan.specs.Nodes.{served_at}
 use Rattle.qx_chan.specs.Users.{Users, process_of, thread_row}
 use Rattle.qx_chan.proofs.ProcessLemmas.{process_of-other}
 use Rattle.qx_chan.proofs.RowReads.{length-with_row, option_cases, row_at-set_other, row_at-set_same, row_at-with_same, row_within, with_row-fixed}
-use Rattle.qx_chan.proofs.WaitLemmas.{or_first, or_second, some-places}
+use Rattle.qx_chan.proofs.WaitLemmas.{some-places}
 
 -- what has ended has no thread
 
@@ -61,8 +62,8 @@ unused-one servers none = grind (arith, common_steps, no-place servers none)
 
 unused : (all : List Servers) (at : ℕ) → list_any (list_any is_some) all ≡ false → is_some (in_use (line_at all at)) ≡ false
 unused [] at none = refl
-unused (servers ∷ all) zero none = unused-one servers (or_first (list_any is_some servers) _ none)
-unused (servers ∷ all) (suc at) none = unused all at (or_second (list_any is_some servers) _ none)
+unused (servers ∷ all) zero none = unused-one servers (or_parts (list_any is_some servers) _ none).0
+unused (servers ∷ all) (suc at) none = unused all at (or_parts (list_any is_some servers) _ none).1
 
 unserved-all : (process : Process) → has_server process ≡ false → (manager : Manager) → served_at manager (Some process) ≡ false
 unserved-all process none manager = unused process.servers (manager_number manager) none
@@ -71,7 +72,7 @@ unserved-all process none manager = unused process.servers (manager_number manag
 
 none-in : (number : ℕ) (calls : List WaitingCall) → list_any (is_of_process number) calls ≡ false → AllByRecursion (λ call. is_of_process number call ≡ false) calls
 none-in number [] none = tt
-none-in number (call ∷ calls) none = (or_first (is_of_process number call) _ none, none-in number calls (or_second (is_of_process number call) _ none))
+none-in number (call ∷ calls) none = ((or_parts (is_of_process number call) _ none).0, none-in number calls (or_parts (is_of_process number call) _ none).1)
 
 both-in : (number : ℕ) (first second : List WaitingCall) → AllByRecursion (λ call. is_of_process number call ≡ false) first → AllByRecursion (λ call. is_of_process number call ≡ false) second → AllByRecursion (λ call. is_of_process number call ≡ false) (first ++ second)
 both-in number [] second all others = others
@@ -80,12 +81,12 @@ both-in number (call ∷ first) second all others = (all.0, both-in number first
 row-none : (number : ℕ) (row : Option (Pipe WaitingCall)) → holds (is_of_process number) row ≡ false → AllByRecursion (λ call. is_of_process number call ≡ false) (calls_at row)
 row-none number None none = tt
 row-none number (Some pipe) none =
-    both-in number pipe.readers pipe.writers (none-in number pipe.readers (or_first (list_any (is_of_process number) pipe.readers) _ none)) (none-in number pipe.writers (or_second (list_any (is_of_process number) pipe.readers) _ none))
+    both-in number pipe.readers pipe.writers (none-in number pipe.readers (or_parts (list_any (is_of_process number) pipe.readers) _ none).0) (none-in number pipe.writers (or_parts (list_any (is_of_process number) pipe.readers) _ none).1)
 
 none-waits : (number : ℕ) (pipes : Pipes) → has_waiting pipes number ≡ false → AllByRecursion (λ call. is_of_process number call ≡ false) (waiting_calls pipes)
 none-waits number [] none = tt
 none-waits number (row ∷ pipes) none =
-    both-in number (calls_at row) (waiting_calls pipes) (row-none number row (or_first (holds (is_of_process number) row) _ none)) (none-waits number pipes (or_second (holds (is_of_process number) row) _ none))
+    both-in number (calls_at row) (waiting_calls pipes) (row-none number row (or_parts (holds (is_of_process number) row) _ none).0) (none-waits number pipes (or_parts (holds (is_of_process number) row) _ none).1)
 
 -- ---- the room for nodes
 

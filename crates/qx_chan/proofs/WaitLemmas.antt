@@ -2,6 +2,7 @@
 use Rattle.std.proofs.Common.{◌≡◌, ◌≢◌, inl, inr, ℕ, ◌∷◌, [], ◌||◌, Bool, true, false, List, Option, Some, None, length, ◌==◌, refl, sym, ◌∙◌, ap, arith}
 use Rattle.std.proofs.lemmas.Bool.Decides.{eqb_tells}
 use Rattle.std.specs.List.{AllByRecursion, list_any}
+use Rattle.std.proofs.lemmas.Bool.{or_parts}
 use Rattle.qx_types.specs.declared.names.Proc.{Proc}
 use Rattle.qx_types.specs.declared.names.Thread.{Thread}
 use Rattle.qx_machine.specs.declared.rows.ThreadRow.{ThreadRow}
@@ -14,14 +15,6 @@ use Rattle.qx_queues.proofs.NodesLemmas.{same_or_not}
 use Rattle.qx_chan.specs.inner.Kept.{IsWaiting, may_wait, waits_for}
 use Rattle.qx_procs.specs.Calls.{has_ended_in}
 use Rattle.qx_chan.specs.Users.{Users, process_of, thread_row}
-
-pub or_first : (a b : Bool) → (a || b) ≡ false → a ≡ false
-or_first true b is = cc
-or_first false b is = refl
-
-pub or_second : (a b : Bool) → (a || b) ≡ false → b ≡ false
-or_second true b is = cc
-or_second false b is = is
 
 -- where each thread that waits for a call does so still, and each process that has ended is there still
 module _ (old new : Users) (still : (other : Thread) (call : ℕ) → waits_for call (thread_row old other) ≡ true → waits_for call (thread_row new other) ≡ true)
@@ -77,8 +70,8 @@ module _ {A : Type 0} (of : A → Thread) (thread : Thread) where
   pub all-others : (P Q : A → Type 0) → ((x : A) → of x ≢ thread → P x → Q x) → (xs : List A) → list_any (λ x. is_same_thread (of x) thread) xs ≡ false → AllByRecursion P xs → AllByRecursion Q xs
   all-others P Q step [] none wait = tt
   all-others P Q step (x ∷ xs) none wait =
-      let first : is_same_thread (of x) thread ≡ false = or_first (is_same_thread (of x) thread) (list_any (λ x. is_same_thread (of x) thread) xs) none in
-      (step x (apart x first) wait.0, all-others P Q step xs (or_second (is_same_thread (of x) thread) (list_any (λ x. is_same_thread (of x) thread) xs) none) wait.1)
+      let first : is_same_thread (of x) thread ≡ false = (or_parts (is_same_thread (of x) thread) (list_any (λ x. is_same_thread (of x) thread) xs) none).0 in
+      (step x (apart x first) wait.0, all-others P Q step xs (or_parts (is_same_thread (of x) thread) (list_any (λ x. is_same_thread (of x) thread) xs) none).1 wait.1)
 
 -- a thread that waits for nothing has no call of which that is to be told
 pub no-wait : (row after : Option ThreadRow) → ((call : ℕ) → waits_for call row ≡ false) → (call : ℕ) → waits_for call row ≡ true → waits_for call after ≡ true

@@ -3,16 +3,12 @@ use Rattle.std.proofs.Common.{◌≡◌, inl, inr, ℕ, Bool, true, false, not, 
 use Rattle.std.proofs.Math.Bool.{and-false, and-not_self}
 use Rattle.std.specs.Prelude.{filter, ◌&&◌, ◌||◌}
 use Rattle.std.specs.List.{AllByRecursion}
-use Rattle.std.proofs.lemmas.Bool.{cases_Bool}
+use Rattle.std.proofs.lemmas.Bool.{cases_Bool, and_parts}
 use Rattle.qx_types.specs.declared.flags.TheConstants.Conds.{INPUT, OUTPUT}
 use Rattle.qx_machine.specs.declared.rows.Conditions.{Conditions}
 use Rattle.qx_machine.specs.declared.rows.Event.{Event}
 use Rattle.qx_machine.specs.declared.rows.Pulse.{Pulse}
 use Rattle.qx_machine.specs.Events.{Events, come_to_hold, is_any, is_due, is_wanted, pulse_of, triggered, wanted_of, with_pulse, with_pulses}
-
-and-first : (a b : Bool) → (a && b) ≡ true → a ≡ true
-and-first true b is = refl
-and-first false b is = is
 
 module _ (before after other later : ℕ → Conditions) where
   -- an event is due by both alike, and gives the same pulse then
@@ -39,7 +35,7 @@ module _ (before after other later : ℕ → Conditions) where
     both : (events : List Event) → AllByRecursion Agree events
         → AllByRecursion (λ event. ((is_due before after event && lives event.process) ≡ (is_due other later event && lives event.process)) × ((is_due before after event && lives event.process) ≡ true → after event.block ≡ later event.block)) events
     both [] agree = tt
-    both (e ∷ es) agree = ((ap (λ due. due && lives e.process) agree.0.due, λ gives. agree.0.holding (and-first _ _ gives)), both es agree.1)
+    both (e ∷ es) agree = ((ap (λ due. due && lives e.process) agree.0.due, λ gives. agree.0.holding (and_parts _ _ gives).0), both es agree.1)
 
     pub triggered-alike : (events : Events) → AllByRecursion Agree events.armed → triggered lives before after events ≡ triggered lives other later events
     triggered-alike events agree =

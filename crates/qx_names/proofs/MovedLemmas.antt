@@ -1,5 +1,5 @@
 -- What the directories show once an entry goes to another place, and all below it with it.
-use Rattle.std.specs.Prelude.{ℕ, zero, suc, ◌||◌, List, [], ◌∷◌, Option, Some, None, if◌then◌else◌, map as mapped, slice_get}
+use Rattle.std.specs.Prelude.{ℕ, zero, suc, List, [], ◌∷◌, Option, Some, None, if◌then◌else◌, map as mapped, slice_get}
 use Rattle.std.specs.Cmp.Lexicographic.{nat_list_cmp_total}
 use Rattle.std.specs.Cmp.{IsTotalOrder, nat_cmp_total}
 use Rattle.std.specs.FinMap.{IsAntisymmetric, entries, entries_sorted, get, get-entries, get-from_entries, nat_cmp-IsAntisymmetric, slice_cmp-IsAntisymmetric}
@@ -7,6 +7,7 @@ use Rattle.std.specs.FinMap.Entries.{below_all, find, is_sorted}
 use Rattle.std.specs.Ordering.{eq_by_cmp, is_eq, ordering_reverse}
 use Rattle.std.specs.declared.cmp.Ordering.{Ordering}
 use Rattle.std.proofs.Common.{◌≡◌, Bool, true, false, T, cond, ap, refl, sym, ◌∙◌}
+use Rattle.std.proofs.lemmas.Bool.{or_parts}
 use mathlib.Core.Logic.{◌⊎◌, inl, inr}
 use Rattle.qx_machine.specs.Names.{Key, Names, is_below, is_same_key, key_cmp, moved, moved_entry, moved_path, under}
 use Rattle.qx_machine.proofs.Directories.{first, is_less, second}
@@ -71,14 +72,6 @@ module _ {K : Type 0} {R : K → K → Ordering} (o : IsTotalOrder R) (same : Is
         by rest true p = (head.1, refl)
         by rest false p = rest
 
-or_false_left : (a b : Bool) → (a || b) ≡ false → a ≡ false
-or_false_left true b e = cc
-or_false_left false b e = refl
-
-or_false_right : (a b : Bool) → (a || b) ≡ false → b ≡ false
-or_false_right true b e = cc
-or_false_right false b e = e
-
 true_false : true ≡ false → ⊥
 true_false e = cc
 
@@ -98,8 +91,8 @@ module _ (from to : Key) where
   pub still : (mount : ℕ) (name : List ℕ) (path : List (List ℕ)) → is_below from mount (name ∷ path) ≡ false → go (mount, path) ≡ (mount, path)
   still mount name [] e = refl
   still mount name (next ∷ above) e =
-      ap (λ b. if b then to else under (go (mount, above)) next) (or_false_left _ _ e)
-      ∙ ap (λ k. under k next) (still mount next above (or_false_right (is_same_key (mount, next ∷ above) from) _ e))
+      ap (λ b. if b then to else under (go (mount, above)) next) (or_parts _ _ e).0
+      ∙ ap (λ k. under k next) (still mount next above (or_parts (is_same_key (mount, next ∷ above) from) _ e).1)
 
 module _ (root : ℕ → Bool) (entry new : ℕ → List ℕ → Option ℕ) (names : Names) (s : Shows root entry names) (one two : Key) (source target inode : ℕ) (last next : List ℕ) (at_one : get names one ≡ Some source) (at_two : get names two ≡ Some target) (there : get names (under one last) ≡ Some inode) (free : get names (under two next) ≡ None) (outside : is_below (under one last) two.0 (next ∷ two.1) ≡ false) (m : Moves entry new source last target next inode) where
   abbrev from : Key
@@ -122,10 +115,10 @@ module _ (root : ℕ → Bool) (entry new : ℕ → List ℕ → Option ℕ) (na
   -- what a path that stays leads to, it leads to
   led_still : (mount : ℕ) (name : List ℕ) (path : List (List ℕ)) (value : ℕ) → is_below from mount (name ∷ path) ≡ false → get names (mount, path) ≡ Some value → reached root new mount path ≡ Some value
   led_still mount name [] value out e = sym (s.shown mount []) ∙ e
-  led_still mount name (here ∷ above) value out e = by (λ directory p. led_still mount here above directory (or_false_right (is_same_key (mount, here ∷ above) from) _ out) p) (get names (mount, above)) refl
+  led_still mount name (here ∷ above) value out e = by (λ directory p. led_still mount here above directory (or_parts (is_same_key (mount, here ∷ above) from) _ out).1 p) (get names (mount, above)) refl
     where
       differs : (mount, here ∷ above) ≡ from → ⊥
-      differs p = true_false (sym (ap (λ k. is_same_key k from) p ∙ tied key_total key-IsAntisymmetric from) ∙ or_false_left _ _ out)
+      differs p = true_false (sym (ap (λ k. is_same_key k from) p ∙ tied key_total key-IsAntisymmetric from) ∙ (or_parts _ _ out).0)
 
       by : ((directory : ℕ) → get names (mount, above) ≡ Some directory → reached root new mount above ≡ Some directory) → (x : Option ℕ) → get names (mount, above) ≡ x → reached root new mount (here ∷ above) ≡ Some value
       by rest None p = absurd (none_some value (sym (ap (λ x. name_looked_up entry x here) p) ∙ sym (step root entry names s mount here above) ∙ e))

@@ -2,7 +2,7 @@
 use Rattle.std.proofs.Common.{◌≡◌, ◌+◌, ◌<◌, ◌≤◌, inl, inr, ℕ, Bool, true, false, not, List, [], ◌∷◌, ◌++◌, length, get_or, length-append, refl, ◌∙◌, arith}
 use Rattle.std.specs.Prelude.{◌&&◌, filter, sum_by}
 use Rattle.std.specs.List.{AllByRecursion}
-use Rattle.std.proofs.lemmas.Bool.{cases_Bool, false≢true}
+use Rattle.std.proofs.lemmas.Bool.{cases_Bool, and_parts}
 use Rattle.std.proofs.lemmas.Bool.Decides.{eqb_tells}
 use Rattle.std.proofs.lemmas.List.{length-set}
 use Rattle.std.proofs.lemmas.List.Elements.{filter-append}
@@ -88,11 +88,6 @@ pulse-count pulses process new within =
     let one : length (line_at pulses process ++ new ∷ []) ≡ length (line_at pulses process) + 1 = rw length-append refl in
     omega (arith, queue-count pulses process (λ queue. queue ++ new ∷ []) within, one)
 
--- both hold, so the first does
-and-first : (a b : Bool) → (a && b) ≡ true → a ≡ true
-and-first true b is = refl
-and-first false b is = absurd (false≢true is)
-
 module _ (gives : Event → Bool) (after : ℕ → Conditions) where
   given-length : (events : List Event) (pulses : List (List Pulse)) → length (with_pulses gives after events pulses) ≡ length pulses
   given-length [] pulses = refl
@@ -119,7 +114,7 @@ module _ (gives : Event → Bool) (after : ℕ → Conditions) where
 module _ (lives : ℕ → Bool) (before after : ℕ → Conditions) (events : Events) (are : AreLimited events) where
   -- an event that gives a pulse is due
   is_due-given : (event : Event) → (is_due before after event && lives event.process) ≡ true → is_due before after event ≡ true
-  is_due-given event is = and-first (is_due before after event) (lives event.process) is
+  is_due-given event is = (and_parts (is_due before after event) (lives event.process) is).0
 
   count-triggered : event_count (triggered lives before after events) ≤ event_count events
   count-triggered = given-count (λ event. is_due before after event && lives event.process) after (is_due before after) is_due-given events.armed events.pulses are.places are.processes

@@ -1,5 +1,5 @@
 -- Walking over the components of a path.
-use Rattle.std.proofs.Common.{◌≡◌, ℕ, ◌+◌, ◌-◌, ◌<◌, Bool, true, false, ◌&&◌, eqb, ltb, List, [], ◌∷◌, length, take, drop, Option, Some, None, refl, ap, subst, ◌∙◌, arith}
+use Rattle.std.proofs.Common.{◌≡◌, ℕ, ◌+◌, ◌-◌, ◌<◌, Bool, true, false, eqb, ltb, List, [], ◌∷◌, length, take, drop, Option, Some, None, refl, ap, subst, ◌∙◌, arith}
 use Rattle.std.specs.Prelude.{position, filter, IfSome, if◌then◌else◌}
 use Rattle.std.specs.List.{list_all, position_or_len, slice_split}
 use Rattle.std.proofs.lemmas.Grind.{common_steps}
@@ -9,6 +9,7 @@ use Rattle.qx_errno.specs.declared.Errno.{Errno}
 use Rattle.qx_wire.specs.Rests.{is_component}
 use Rattle.qx_wire.proofs.RestLemmas.{next_first, next_last}
 use Rattle.std.specs.Str.{bytes_eq}
+use Rattle.std.proofs.lemmas.Bool.{and_parts}
 use Rattle.qx_paths.specs.Prefixes.{behind}
 use Rattle.qx_paths.specs.Paths.{begins_with_slash, component_fault, first_fault, is_named, or_fault, path_components}
 
@@ -68,10 +69,6 @@ faultless (name ∷ names) is =
 
 -- ---- behind a prefix
 
-pub both_true : (a b : Bool) → (a && b) ≡ true → (a ≡ true) × (b ≡ true)
-both_true true b e = (refl, e)
-both_true false b e = absurd cc
-
 chosen_some : {X : Type 0} (b : Bool) (left : Option X) (x : X) → (if b then left else None) ≡ Some x → left ≡ Some x
 chosen_some true left x e = e
 chosen_some false left x e = absurd cc
@@ -79,4 +76,4 @@ chosen_some false left x e = absurd cc
 pub good_behind : (path names rest : List (List ℕ)) → behind path names ≡ Some rest → list_all is_component path ≡ true → list_all is_component rest ≡ true
 good_behind path [] rest is good = subst (λ (left : Option (List (List ℕ))). IfSome left (λ p. list_all is_component p ≡ true)) is good
 good_behind [] (name ∷ names) rest is good = absurd cc
-good_behind (first ∷ path) (name ∷ names) rest is good = good_behind path names rest (chosen_some (bytes_eq first name) (behind path names) rest is) (both_true (is_component first) (list_all is_component path) good).1
+good_behind (first ∷ path) (name ∷ names) rest is good = good_behind path names rest (chosen_some (bytes_eq first name) (behind path names) rest is) (and_parts (is_component first) (list_all is_component path) good).1

@@ -2,7 +2,7 @@
 use Rattle.std.proofs.Common.{nat_le, append_assoc, ◌≡◌, ℕ, ◌+◌, ◌≤◌, Bool, true, false, ◌&&◌, eqb, List, [], ◌∷◌, ◌++◌, length, take, drop, Option, None, Some, refl, ap, sym, subst, ◌∙◌, arith}
 use Rattle.std.specs.Prelude.{IfOk, Result, Ok, Err, if◌then◌else◌, filter, nat_lt}
 use Rattle.std.specs.List.{list_all, slice_split}
-use Rattle.std.proofs.lemmas.Bool.{eqb-true, le-leb, le-ltb, ltb-false}
+use Rattle.std.proofs.lemmas.Bool.{eqb-true, le-leb, le-ltb, ltb-false, and_parts}
 use Rattle.std.proofs.lemmas.List.{length-append, take-append-drop}
 use Rattle.std.proofs.lemmas.List.Folds.{list_all-append}
 use Rattle.std.proofs.lemmas.List.Splits.{join_with_byte-slice_split}
@@ -13,7 +13,7 @@ use Rattle.qx_wire.specs.Rests.{is_component, is_rest, components_of, joined}
 use Rattle.qx_wire.proofs.RestLemmas.{components_joined, components_some}
 use Rattle.qx_paths.specs.Paths.{begins_with_slash, first_fault, is_named, path_components, read_path, unless}
 use Rattle.qx_paths.specs.inner.Paths.{IsShortPath}
-use Rattle.qx_paths.proofs.PathLemmas.{both_true, faultless, skip_slash}
+use Rattle.qx_paths.proofs.PathLemmas.{faultless, skip_slash}
 
 abbrev slash : ℕ → Bool
 slash x = eqb x 47
@@ -92,7 +92,7 @@ rests bytes names n e =
     let heavy : weight names ≤ length bytes = subst (λ (parts : List (List ℕ)). weight parts ≤ length bytes) r.are (weight_path bytes r.slash_first) in
     let short : length (joined (drop n names)) ≤ PATH = joined_within (drop n names) PATH (omega (arith, heavy, weight_drop n names, r.short)) in
     let parted : (list_all is_component (take n names) && list_all is_component (drop n names)) ≡ true = sym (list_all-append is_component (take n names) (drop n names)) ∙ ap (list_all is_component) (take-append-drop n names) ∙ faultless names r.faultless in
-    let good = (both_true (list_all is_component (take n names)) (list_all is_component (drop n names)) parted).1 in
+    let good = (and_parts (list_all is_component (take n names)) (list_all is_component (drop n names)) parted).1 in
     rw (le-leb (length (joined (drop n names))) PATH short, good) refl
 
 pub good_rest : (bytes : List ℕ) → IsShortPath bytes → is_rest (path_components bytes) ≡ true
@@ -105,14 +105,14 @@ joined_more text name [] = append_assoc text (47 ∷ []) name
 joined_more text name (next ∷ names) = rw (append_assoc text (47 ∷ []) name) (append_assoc text (47 ∷ name) (47 ∷ joined (next ∷ names)))
 
 pub rest_again : (rest : List (List ℕ)) → is_rest rest ≡ true → components_of (joined rest) ≡ rest
-rest_again rest good = components_joined rest (both_true (nat_le (length (joined rest)) PATH) (list_all is_component rest) good).1
+rest_again rest good = components_joined rest (and_parts (nat_le (length (joined rest)) PATH) (list_all is_component rest) good).1
 
 -- ---- reading again
 
 all_named : (names : List (List ℕ)) → list_all is_component names ≡ true → filter is_named names ≡ names
 all_named [] good = refl
 all_named ([] ∷ names) good = absurd cc
-all_named ((b ∷ name) ∷ names) good = ap (λ (xs : List (List ℕ)). (b ∷ name) ∷ xs) (all_named names (both_true (is_component (b ∷ name)) (list_all is_component names) good).1)
+all_named ((b ∷ name) ∷ names) good = ap (λ (xs : List (List ℕ)). (b ∷ name) ∷ xs) (all_named names (and_parts (is_component (b ∷ name)) (list_all is_component names) good).1)
 
 joined_some : (name : List ℕ) (names : List (List ℕ)) → list_all is_component (name ∷ names) ≡ true → length (joined (name ∷ names)) ≡ 0 → ⊥
 joined_some [] names good e = cc

@@ -4,7 +4,7 @@ ghost use Rattle.std.specs.Prelude.{◌≡◌, IfOk, vec_len};
 ghost use Rattle.qx_pool.specs.declared.waits.TheConstants.{THREADS};
 
 use crate::locked::Locked;
-use crate::spinner::{Spinner, spin};
+use crate::spinner::{Spinner, TRIES, pause, spin};
 use crate::waits::{Awaited, THREADS, ThreadSet, Woken, place_of};
 use qx_world::UnderLock;
 use std::alloc::{AllocError, Global};
@@ -78,8 +78,14 @@ impl<S: UnderLock> ServerOf<S> {
         }
     }
 
-    /// Takes the lock.
+    /// Takes the lock. Where another thread has it, it is asked for anew for a while before the thread sleeps.
     pub(crate) fn lock(&self, rt: &impl Wait) -> MutexGuard<'_, Locked<S>> {
+        for _ in 0..TRIES {
+            if let Some(guard) = self.locked.try_lock() {
+                return guard;
+            }
+            pause();
+        }
         self.locked.lock(rt)
     }
 
@@ -94,8 +100,9 @@ impl<S: UnderLock> ServerOf<S> {
         if !guard.waits_for(awaited) {
             return guard;
         }
-        if spinner.begin() {
-            guard = self.spin(rt, guard, awaited);
+        let looks = spinner.begin();
+        if looks > 0 {
+            guard = self.spin(rt, guard, awaited, looks);
             if !guard.waits_for(awaited) {
                 spinner.paid();
                 return guard;
@@ -111,13 +118,14 @@ impl<S: UnderLock> ServerOf<S> {
         rt: &R,
         mut guard: MutexGuard<'_, Locked<S>>,
         awaited: Awaited,
+        looks: u32,
     ) -> MutexGuard<'_, Locked<S>> {
         match awaited {
             Awaited::Item => {
                 let seen = self.looks.notifications();
                 guard.start_looking();
                 drop(guard);
-                spin(&self.looks, seen);
+                spin(&self.looks, seen, looks);
                 let mut guard = self.lock(rt);
                 guard.stop_looking();
                 guard
@@ -126,7 +134,7 @@ impl<S: UnderLock> ServerOf<S> {
                 let bell = self.bell(awaited);
                 let seen = bell.notifications();
                 drop(guard);
-                spin(bell, seen);
+                spin(bell, seen, looks);
                 self.lock(rt)
             }
         }

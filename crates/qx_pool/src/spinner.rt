@@ -9,8 +9,11 @@ const LOOKS: u32 = 2_000;
 /// After so many spins in vain, one after another, a thread sleeps at once.
 const VAIN: u32 = 4;
 
-/// From then on it spins once in so many waits.
-const TRIAL: u32 = 128;
+/// From then on it spins once in so many waits, and looks so often then: longer than it takes to wake a thread that sleeps, so
+/// that two threads that both sleep find back to spinning.
+const TRIAL: u32 = 64;
+
+const LONG: u32 = 16_000;
 
 /// Whether a thread spins before it sleeps. Where what it waits for comes within the spin, as by a thread on another
 /// processor, neither has to ask the kernel; where it doesn't, as on one processor, or where another thread takes it first,
@@ -27,11 +30,17 @@ impl Spinner {
         Spinner { vain: 0 }
     }
 
-    /// A wait begins. True where a spin may pay.
-    pub(crate) fn begin(&mut self) -> bool {
-        let is_tried = self.vain < VAIN || self.vain.is_multiple_of(TRIAL);
+    /// A wait begins. How often to look before the thread sleeps, 0 where a spin hardly pays.
+    pub(crate) fn begin(&mut self) -> u32 {
+        let looks = if self.vain < VAIN {
+            LOOKS
+        } else if self.vain.is_multiple_of(TRIAL) {
+            LONG
+        } else {
+            0
+        };
         self.vain = self.vain.wrapping_add(1);
-        is_tried
+        looks
     }
 
     /// What the thread waited for is there after its spin.
@@ -40,12 +49,22 @@ impl Spinner {
     }
 }
 
-/// Waits for more notifications than were seen, for a while.
-pub(crate) fn spin(bell: &Condvar, seen: u64) {
-    for _ in 0..LOOKS {
+/// Waits for more notifications than were seen, and looks at most so often.
+pub(crate) fn spin(bell: &Condvar, seen: u64, looks: u32) {
+    for _ in 0..looks {
         if bell.notifications() != seen {
             return;
         }
+        spin_loop();
+    }
+}
+
+/// So often a thread asks for a lock before it sleeps, some 8 microseconds long.
+pub(crate) const TRIES: u32 = 64;
+
+/// Waits for some tenth of a microsecond.
+pub(crate) fn pause() {
+    for _ in 0..16 {
         spin_loop();
     }
 }

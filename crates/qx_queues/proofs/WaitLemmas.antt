@@ -1,8 +1,8 @@
 -- Who waits and who was answered, by the nodes; whose message was received.
-use Rattle.std.proofs.Common.{◌≡◌, inl, inr, ℕ, ◌==◌, ◌&&◌, is_some, IfNone, Bool, true, false, List, [], ◌∷◌, Contains, Option, Some, None, map, unwrap_or, refl, sym, ◌∙◌, ap}
+use Rattle.std.proofs.Common.{◌≡◌, inl, inr, ℕ, ◌==◌, is_some, IfNone, Bool, true, false, List, [], ◌∷◌, Contains, Option, Some, None, map, unwrap_or, refl, sym, ◌∙◌, ap}
 use Rattle.std.specs.FinMap as maps
 use Rattle.std.specs.List.{list_any}
-use Rattle.std.proofs.lemmas.Bool.{cases_Bool}
+use Rattle.std.proofs.lemmas.Bool.{cases_Bool, and_parts}
 use Rattle.qx_types.specs.declared.names.Thread.{Thread}
 use Rattle.qx_lists.specs.Table.{Table, IsFree, IsIn, nodes_of}
 use Rattle.qx_lists.proofs.ListLemmas.{contains_first, contains_later}
@@ -123,10 +123,6 @@ waits_own number Nothing has = absurd has
 waits_own number (Waits call) has = refl
 waits_own number (Answered given) has = absurd has
 
-both_true : (a b : Bool) → (a && b) ≡ true → (a ≡ true) × (b ≡ true)
-both_true true b is = (refl, is)
-both_true false b is = absurd (cc)
-
 module _ {answered : ℕ} (t : Table Waiting) (lines : List Line) (node_of : Owner → Option ℕ) (kept : AreListsOfTable t lines answered node_of) (thread : Thread) where
   -- where a node of the thread is found, it is the thread's
   found-own : (list : ℕ) (test : UsersCall → Bool) (one : Found t node_of list test) → is_same_thread (caller (call_at t one.node)) thread ≡ true → node_of (Message thread) ≡ Some one.node
@@ -144,7 +140,7 @@ module _ {answered : ℕ} (t : Table Waiting) (lines : List Line) (node_of : Own
     | inr none ↦ none
     | inl some ↦
         let one = found t lines node_of kept list (is_users_call thread number) some in
-        let is = both_true _ _ one.is in
+        let is = and_parts _ _ one.is in
         let clash : true ≡ false = sym is.1 ∙ waits_own number (waiting_of_node t one.node).load one.carries ∙ not one.node (found-own list _ one is.0) in
         absurd (cc)
   ]

@@ -3,6 +3,7 @@ use Rattle.std.proofs.Common.{◌≡◌, ℕ, ◌≤◌, true, List, [], ◌∷�
 use Rattle.std.specs.Prelude.{codes}
 use Rattle.std.specs.List.{list_all}
 use Rattle.std.specs.Str.{bytes_eq}
+use Rattle.std.proofs.lemmas.Bool.{and_parts}
 use Rattle.qx_types.specs.declared.step.Step.{Step}
 use Rattle.qx_script.specs.declared.command.Command.{Command}
 use Rattle.qx_script.specs.declared.command.Command.TheVariants.{Take, Serve, Do, Show, Erased, Trace}
@@ -12,7 +13,6 @@ use Rattle.qx_calls.proofs.ReadCalls.{call_within}
 use Rattle.qx_words.specs.Kinds.{is_word}
 use Rattle.qx_script.specs.Lines.{CanSay, call_step, command_lines, command_of, do_of, step_lines, step_in_line}
 use Rattle.qx_words.specs.Words.{greatest_moment, moment_of}
-use Rattle.qx_words.proofs.PlainWords.{both_true}
 use Rattle.qx_calls.proofs.ReadForms.{Makes, by_name, one_of_within}
 use Rattle.qx_words.proofs.ReadValues.{bind_some, mapped, number_within, of_some}
 
@@ -47,7 +47,7 @@ do_within users (word ∷ []) command all is = cc
 do_within users (word ∷ name ∷ words) command all is =
     let moment = bind_some (moment_of word) _ command is in
     let call = bind_some (call_in_line users name words) _ command moment.2 in
-    let rest = both_true (is_word name) _ (both_true (is_word word) _ all).1 in
+    let rest = and_parts (is_word name) _ (and_parts (is_word word) _ all).1 in
     subst (CanSayCommand users) (of_some _ command call.2)
     (number_within greatest_moment word moment.0 moment.1, call_within users name words call.0 rest.1 call.1)
 

@@ -7,6 +7,7 @@ use Rattle.std.proofs.lemmas.Bool.Decides.{nat_tests}
 use Rattle.std.proofs.lemmas.List.Elements.{All-nil, All-push}
 use Rattle.std.proofs.lemmas.List.{length_push}
 use Rattle.std.proofs.lemmas.Option.{cond_some}
+use Rattle.std.proofs.lemmas.Bool.{and_parts}
 use Rattle.qx_types.specs.Configuration.{Configuration, HasLimits, IsConfiguration, is_user_name}
 use Rattle.qx_types.specs.declared.limits.TheConstants.Limits.{USERS, WORKERS}
 use Rattle.qx_script.specs.declared.command.Command.{Command}
@@ -20,7 +21,6 @@ use Rattle.qx_types.specs.UserLimits.{default_limits}
 use Rattle.qx_words.specs.Kinds.{is_word}
 use Rattle.qx_script.specs.Script.{Bad, Good, Reading, Script, after_line, after_setting, after_user, after_words, after_workers, is_before_commands, is_new_user, is_skipped, script, script_from, unread, with_command, with_setting, with_user, with_workers}
 use Rattle.qx_words.specs.Words.{lines_of, words_of}
-use Rattle.qx_words.proofs.PlainWords.{both_true}
 use Rattle.qx_script.proofs.ReadCommands.{CanSayCommand, command_within}
 use Rattle.qx_calls.proofs.ReadForms.{by_name, line_within}
 use Rattle.qx_words.proofs.ReadValues.{bind_some, is_in_line, lines_are_lines, mapped, of_some, words_are_words}
@@ -55,8 +55,8 @@ is_not false is = refl
 user_read : (r : Reading) (name : List ℕ) (next : Reading) → Read r → is_user_name name ≡ true → with_user r name ≡ Some next → Read next
 user_read r name next read_form good is =
     let parts = cond_some (is_new_user r name) (record r { users = r.users ++ name ∷ [] }) next is in
-    let few = both_true (is_before_commands r && not (list_any (λ other. bytes_eq other name) r.users)) (ltb (length r.users) USERS) parts.0 in
-    let fresh = both_true (is_before_commands r) (not (list_any (λ other. bytes_eq other name) r.users)) few.0 in
+    let few = and_parts (is_before_commands r && not (list_any (λ other. bytes_eq other name) r.users)) (ltb (length r.users) USERS) parts.0 in
+    let fresh = and_parts (is_before_commands r) (not (list_any (λ other. bytes_eq other name) r.users)) few.0 in
     let below : ltb (length r.users) USERS ≡ true = few.1 in
     let room : length r.users < USERS = grind (arith, nat_tests) in
     subst Read parts.1 (record {
@@ -73,7 +73,7 @@ IsOf users setting = (1 ≤ setting.user.0) × (setting.user.0 ≤ length users)
 setting_read : (r : Reading) (setting : Setting) (next : Reading) → Read r → IsOf r.users setting → with_setting r setting ≡ Some next → Read next
 setting_read r setting next read_form of is =
     let parts = cond_some (is_before_commands r && not (list_any (sets_same setting) r.settings) && is_allowed setting) (record r { settings = r.settings ++ setting ∷ [] }) next is in
-    let allowed = both_true (is_before_commands r && not (list_any (sets_same setting) r.settings)) (is_allowed setting) parts.0 in
+    let allowed = and_parts (is_before_commands r && not (list_any (sets_same setting) r.settings)) (is_allowed setting) parts.0 in
     subst Read parts.1 (record {
       users = read_form.users;
       settings = All-push (CanBeSet (length r.users)) r.settings setting read_form.settings (record { some = of.0; within = of.1; allowed = allowed.1 });
@@ -84,8 +84,8 @@ setting_read r setting next read_form of is =
 workers_read : (r : Reading) (workers : ℕ) (next : Reading) → Read r → with_workers r workers ≡ Some next → Read next
 workers_read r workers next read_form is =
     let parts = cond_some (is_before_commands r && is_none r.workers && leb 1 workers && leb workers WORKERS) (record r { workers = Some workers }) next is in
-    let most = both_true ((is_before_commands r && is_none r.workers) && leb 1 workers) (leb workers WORKERS) parts.0 in
-    let least = both_true (is_before_commands r && is_none r.workers) (leb 1 workers) most.0 in
+    let most = and_parts ((is_before_commands r && is_none r.workers) && leb 1 workers) (leb workers WORKERS) parts.0 in
+    let least = and_parts (is_before_commands r && is_none r.workers) (leb 1 workers) most.0 in
     let above : leb 1 workers ≡ true = least.1 in
     let below : leb workers WORKERS ≡ true = most.1 in
     let some : 1 ≤ workers = grind (arith, nat_tests) in
@@ -125,7 +125,7 @@ words_read : (r : Reading) (words : List (List ℕ)) (next : Reading) → Read r
 unfolding after_words
 words_read r [] next before all is = cc
 words_read r (name ∷ words) next before all is =
-    let rest = (both_true (is_word name) _ all).1 in
+    let rest = (and_parts (is_word name) _ all).1 in
     by_name (bytes_eq name user_line.name) (after_user r words) _ next (Read next) (user_line_read r words next before rest)
     (by_name (bytes_eq name ceiling_line.name) (after_setting ceiling_line r words) _ next (Read next) (setting_line_read ceiling_line r words next (λ values can. can.0) before rest)
     (by_name (bytes_eq name limit_line.name) (after_setting limit_line r words) _ next (Read next) (setting_line_read limit_line r words next (λ values can. can.0) before rest)
@@ -178,7 +178,7 @@ lines_read r number [] config commands read_form all is =
     } in
     subst (Asked config) (ap commands_of is) (subst (λ (c : Configuration). Asked c r.commands) same asked)
 lines_read r number (line ∷ lines) config commands read_form all is =
-    let parts = both_true (list_all is_in_line line) (list_all (list_all is_in_line) lines) all in
+    let parts = and_parts (list_all is_in_line line) (list_all (list_all is_in_line) lines) all in
     continued (after_line r line) number lines (Good config commands) (Asked config commands) (λ bad. cc)
     (λ next after more. lines_read next (number + 1) lines config commands (line_read r line next read_form parts.0 after) parts.1 more) is
 

@@ -10,6 +10,7 @@ use Rattle.std.proofs.lemmas.List.{get_or_append_left, length_push}
 use Rattle.std.proofs.lemmas.List.Elements.{All-append, All-from_recursion, All-head, All-nil, All-tail}
 use Rattle.std.proofs.lemmas.List.Splits.{slice_split_at, slice_split_none}
 use Rattle.std.proofs.lemmas.Slice.Eq.{bytes_eq-Decides}
+use Rattle.std.proofs.lemmas.Bool.{and_parts, and_from}
 use Rattle.qx_types.specs.Configuration.{Configuration, HasLimits, IsConfiguration, is_user_name, limits_of}
 use Rattle.qx_types.specs.UserLimits.{AreLimits, UserLimits, in_ranges, default_limits, most_of}
 use Rattle.qx_types.specs.declared.user_limits.LimitName.{LimitName}
@@ -31,7 +32,7 @@ use Rattle.qx_script.specs.Script.{Bad, Good, Reading, Script, after_line, after
 use Rattle.qx_script.specs.StepText.{step_text}
 use Rattle.qx_words.specs.Kinds.{is_word, is_word_byte}
 use Rattle.qx_words.specs.Words.{greatest_byte, greatest_of_four_bytes, lines_of}
-use Rattle.qx_words.proofs.PlainWords.{all_joined, all_weaker, and_true, both_true, none_passes}
+use Rattle.qx_words.proofs.PlainWords.{all_joined, all_weaker, none_passes}
 use Rattle.qx_script.proofs.ReadBack.{line_in_words, name_is_word, read_back}
 use Rattle.qx_calls.proofs.ReadForms.{are_words, line_again, text_in_words}
 use Rattle.qx_words.proofs.ReadValues.{is_in_line}
@@ -44,24 +45,24 @@ no_newline byte is = grind (arith, nat_tests)
 
 lines_again : (line : List ℕ) (lines : List (List ℕ)) → list_all (list_all is_in_line) (line ∷ lines) ≡ true → lines_of (join_with_byte 10 (line ∷ lines)) ≡ line ∷ lines
 lines_again line [] all =
-    let parts = both_true (list_all is_in_line line) true all in
+    let parts = and_parts (list_all is_in_line line) true all in
     slice_split_none (λ byte. eqb byte 10) line (none_passes is_in_line (λ byte. eqb byte 10) no_newline line parts.0)
 lines_again line (second ∷ lines) all =
-    let parts = both_true (list_all is_in_line line) (list_all (list_all is_in_line) (second ∷ lines)) all in
+    let parts = and_parts (list_all is_in_line line) (list_all (list_all is_in_line) (second ∷ lines)) all in
     slice_split_at (λ byte. eqb byte 10) line 10 (join_with_byte 10 (second ∷ lines)) (none_passes is_in_line (λ byte. eqb byte 10) no_newline line parts.0) refl
     ∙ ap (λ more. line ∷ more) (lines_again second lines parts.1)
 
 in_line : (byte : ℕ) → is_word_byte byte ≡ true → is_in_line byte ≡ true
-in_line byte is = (both_true (not (eqb byte 32)) (not (eqb byte 10)) is).1
+in_line byte is = (and_parts (not (eqb byte 32)) (not (eqb byte 10)) is).1
 
 word_in_line : (word : List ℕ) → is_word word ≡ true → list_all is_in_line word ≡ true
-word_in_line word is = all_weaker is_word_byte is_in_line in_line word (both_true (not (eqb (length word) 0)) (list_all is_word_byte word) is).1
+word_in_line word is = all_weaker is_word_byte is_in_line in_line word (and_parts (not (eqb (length word) 0)) (list_all is_word_byte word) is).1
 
 words_in_line : (words : List (List ℕ)) → list_all is_word words ≡ true → list_all is_in_line (join_with_byte 32 words) ≡ true
 words_in_line [] all = refl
-words_in_line (word ∷ []) all = word_in_line word (both_true (is_word word) true all).0
+words_in_line (word ∷ []) all = word_in_line word (and_parts (is_word word) true all).0
 words_in_line (word ∷ second ∷ words) all =
-    let parts = both_true (is_word word) (list_all is_word (second ∷ words)) all in
+    let parts = and_parts (is_word word) (list_all is_word (second ∷ words)) all in
     all_joined is_in_line word (32 ∷ join_with_byte 32 (second ∷ words)) (word_in_line word parts.0) (words_in_line (second ∷ words) parts.1)
 
 said_in_line : (config : Configuration) (saying : Saying) → IsConfiguration config.users config.workers → is_word saying.name ≡ true → CanBeSaid config.users saying
@@ -76,7 +77,7 @@ steps_in_lines : (config : Configuration) (steps : List Step) → IsConfiguratio
     → list_all (list_all is_in_line) (map (step_text config) steps) ≡ true
 steps_in_lines config [] valid can = refl
 steps_in_lines config (step ∷ steps) valid can =
-    and_true (list_all is_in_line (step_text config step)) _ (step_in_line config step valid (All-head (CanSay config.users) step steps can))
+    and_from (list_all is_in_line (step_text config step)) _ (step_in_line config step valid (All-head (CanSay config.users) step steps can))
     (steps_in_lines config steps valid (All-tail (CanSay config.users) step steps can))
 
 user_text : Configuration → List ℕ → List ℕ
@@ -87,7 +88,7 @@ users_in_lines : (config : Configuration) (names more : List (List ℕ)) → IsC
 unfolding user_text
 users_in_lines config [] more valid good rest = rest
 users_in_lines config (name ∷ names) more valid good rest =
-    and_true (list_all is_in_line (line_text config (user_said name))) _
+    and_from (list_all is_in_line (line_text config (user_said name))) _
     (said_in_line config (user_said name) valid refl (All-head (λ name. is_user_name name ≡ true) name names good, tt))
     (users_in_lines config names more valid (All-tail (λ name. is_user_name name ≡ true) name names good) rest)
 
@@ -122,7 +123,7 @@ settings_in_lines : (config : Configuration) (settings : List Setting) (more : L
 unfolding setting_text
 settings_in_lines config [] more valid each rest = rest
 settings_in_lines config (setting ∷ settings) more valid each rest =
-    and_true (list_all is_in_line (line_text config (setting_said setting))) _
+    and_from (list_all is_in_line (line_text config (setting_said setting))) _
     (said_in_line config (setting_said setting) valid (name_of_setting setting.user setting.limit setting.value) (can_say config setting (All-head (CanBeSet (length config.users)) setting settings each)))
     (settings_in_lines config settings more valid (All-tail (CanBeSet (length config.users)) setting settings each) rest)
 
@@ -150,7 +151,7 @@ new_user done name rest workers valid =
     valid.different_names k (length done) [] below within
     (get_or_append_left done (name ∷ rest) [] k below ∙ (bytes_eq-Decides (get_or done k []) name).0 same ∙ sym (get_or-append_seam done name rest [])))) in
     let room : ltb (length done) USERS ≡ true = let few = valid.few_users in grind (arith, nat_tests) in
-    and_true (true && not (list_any (λ other. bytes_eq other name) done)) (ltb (length done) USERS) (ap not fresh) room
+    and_from (true && not (list_any (λ other. bytes_eq other name) done)) (ltb (length done) USERS) (ap not fresh) room
 
 user_taken : (config : Configuration) (done : List (List ℕ)) (name : List ℕ) (rest : List (List ℕ)) (workers : ℕ) → IsConfiguration config.users config.workers
     → IsConfiguration (done ++ name ∷ rest) workers → after_line (naming done []) (user_text config name) ≡ Some (naming (done ++ name ∷ []) [])
@@ -250,7 +251,7 @@ all_can config user (limits ∷ others) some few each =
     let P = CanBeSet (length config.users) in
     let own = All-head AreLimits limits others each in
     let can : (limit : Option LimitName) (value : ℕ) → (1 ≤ value) × (value ≤ greatest limit) → P (setting_of user limit value) = λ limit value range.
-    record { some = some; within = omega (arith, few); allowed = and_true (leb 1 value) (leb value (greatest limit)) (let low = range.0 in grind (arith, nat_tests)) (let high = range.1 in grind (arith, nat_tests)) } in
+    record { some = some; within = omega (arith, few); allowed = and_from (leb 1 value) (leb value (greatest limit)) (let low = range.0 in grind (arith, nat_tests)) (let high = range.1 in grind (arith, nat_tests)) } in
     All-append P (settings_of user limits) (settings_from (suc user) others)
     (All-from_recursion P (settings_of user limits) (can None limits.ceiling own.ceiling, (can (Some Processes) limits.processes own.processes, (can (Some Connections) limits.connections own.connections, (can (Some Servers) limits.servers own.servers, (can (Some Blocks) limits.blocks own.blocks, (can (Some Inodes) limits.inodes own.inodes, (can (Some File) limits.file own.file, (can (Some Bytes) limits.bytes own.bytes, (can (Some Mounts) limits.mounts own.mounts, (can (Some Events) limits.events own.events, tt)))))))))))
     (all_can config (suc user) others (omega arith) (omega (arith, few)) (All-tail AreLimits limits others each))
@@ -267,7 +268,7 @@ setting_taken config done user None value valid can fresh =
     line_in_words r (line_text config said) refl
     ∙ ap (after_words r) (text_in_words config said valid refl says)
     ∙ ap (λ (said : Option Setting). said >>= with_setting r) (line_again ceiling_line config (user, (value, tt)) valid says)
-    ∙ chosen (not (list_any (sets_same setting) done) && is_allowed setting) (Some (naming config.users (done ++ setting ∷ []))) None (and_true (not (list_any (sets_same setting) done)) (is_allowed setting) (ap not fresh) can.allowed)
+    ∙ chosen (not (list_any (sets_same setting) done) && is_allowed setting) (Some (naming config.users (done ++ setting ∷ []))) None (and_from (not (list_any (sets_same setting) done)) (is_allowed setting) (ap not fresh) can.allowed)
 setting_taken config done user (Some limit) value valid can fresh =
     let setting : Setting = record { user = user; limit = Some limit; value = value } in
     let r = naming config.users done in
@@ -276,7 +277,7 @@ setting_taken config done user (Some limit) value valid can fresh =
     line_in_words r (line_text config said) refl
     ∙ ap (after_words r) (text_in_words config said valid refl says)
     ∙ ap (λ (said : Option Setting). said >>= with_setting r) (line_again limit_line config (user, (limit, (value, tt))) valid says)
-    ∙ chosen (not (list_any (sets_same setting) done) && is_allowed setting) (Some (naming config.users (done ++ setting ∷ []))) None (and_true (not (list_any (sets_same setting) done)) (is_allowed setting) (ap not fresh) can.allowed)
+    ∙ chosen (not (list_any (sets_same setting) done) && is_allowed setting) (Some (naming config.users (done ++ setting ∷ []))) None (and_from (not (list_any (sets_same setting) done)) (is_allowed setting) (ap not fresh) can.allowed)
 
 settings_taken : (config : Configuration) (done rest : List Setting) (number : ℕ) (lines : List (List ℕ)) (good : Script) → IsConfiguration config.users config.workers
     → All (CanBeSet (length config.users)) rest → AreFresh done rest → ((number : ℕ) → script_from (naming config.users (done ++ rest)) number lines ≡ good)
@@ -384,7 +385,7 @@ workers_taken config valid =
     line_in_words r (line_text config (workers_said workers)) refl
     ∙ ap (after_words r) (text_in_words config (workers_said workers) valid refl (can, tt))
     ∙ ap (λ (said : Option ℕ). said >>= with_workers r) (line_again workers_line config (workers, tt) valid (can, tt))
-    ∙ chosen (leb 1 workers && leb workers WORKERS) (Some (serving config [])) None (and_true (leb 1 workers) (leb workers WORKERS) low high)
+    ∙ chosen (leb 1 workers && leb workers WORKERS) (Some (serving config [])) None (and_from (leb 1 workers) (leb workers WORKERS) low high)
 
 -- steps
 
@@ -407,7 +408,7 @@ lines_of_replay : (config : Configuration) (steps : List Step) → IsConfigurati
 unfolding replay_text user_text workers_text setting_text
 lines_of_replay config steps valid limits can =
     let named = said_in_line config (workers_said config.workers) valid refl (omega (arith, valid.few_workers), tt) in
-    let rest = and_true (list_all is_in_line (workers_text config)) _ named (steps_in_lines config steps valid can) in
+    let rest = and_from (list_all is_in_line (workers_text config)) _ named (steps_in_lines config steps valid can) in
     let after = workers_text config ∷ map (step_text config) steps in
     let settings = settings_from 1 config.limits in
     let settings_too = settings_in_lines config settings after valid (all_can config 1 config.limits (omega arith) (omega (arith, limits.each_user)) limits.in_range) rest in

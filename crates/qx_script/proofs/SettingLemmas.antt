@@ -4,18 +4,18 @@ use Rattle.std.specs.Prelude.{All}
 use Rattle.std.proofs.lemmas.Bool.Decides.{nat_tests}
 use Rattle.std.proofs.lemmas.List.{length-replicate, length-set}
 use Rattle.std.proofs.lemmas.List.Elements.{All-head, All-replicate, All-set, All-tail}
+use Rattle.std.proofs.lemmas.Bool.{and_parts}
 use Rattle.qx_types.specs.Configuration.{Configuration, HasLimits, limits_of}
 use Rattle.qx_types.specs.UserLimits.{AreLimits, UserLimits, default_limits}
 use Rattle.qx_types.specs.declared.user_limits.LimitName.{LimitName}
 use Rattle.qx_types.proofs.LimitLemmas.{default_within, limited, limits_within}
-use Rattle.qx_words.proofs.PlainWords.{both_true}
 use Rattle.qx_script.specs.declared.setting.Setting.{Setting}
 use Rattle.qx_script.specs.Settings.{CanBeSet, configured, greatest, is_allowed, set_by, set_to}
 
 -- a value that may be set is in its range
 pub in_range : (setting : Setting) → is_allowed setting ≡ true → (1 ≤ setting.value) × (setting.value ≤ greatest setting.limit)
 in_range setting allowed =
-    let parts = both_true (leb 1 setting.value) (leb setting.value (greatest setting.limit)) allowed in
+    let parts = and_parts (leb 1 setting.value) (leb setting.value (greatest setting.limit)) allowed in
     let some : leb 1 setting.value ≡ true = parts.0 in
     let few : leb setting.value (greatest setting.limit) ≡ true = parts.1 in
     (grind (arith, nat_tests), grind (arith, nat_tests))

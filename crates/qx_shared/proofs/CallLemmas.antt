@@ -2,7 +2,7 @@
 use Rattle.std.proofs.Common.{◌≡◌, ◌⊎◌, ◌==◌, ◌&&◌, inl, inr, ℕ, zero, suc, ◌||◌, Bool, true, false, List, [], ◌∷◌, ◌++◌, Option, Some, None, IfNone, IfSome, is_some, map, option_map, unwrap_or, refl, sym, ◌∙◌, ap, ap₂}
 use Rattle.std.specs.FinMap as maps
 use Rattle.std.specs.List.{list_any}
-use Rattle.std.proofs.lemmas.Bool.{cases_Bool}
+use Rattle.std.proofs.lemmas.Bool.{cases_Bool, or_parts, and_parts}
 use Rattle.std.proofs.lemmas.Bool.Decides.{eqb_tells}
 use Rattle.std.proofs.lemmas.List.Folds.{list_any-append}
 use Rattle.qx_types.specs.declared.names.Proc.{Proc}
@@ -25,13 +25,9 @@ use Rattle.qx_shared.specs.declared.side.Side.{Side}
 use Rattle.qx_shared.specs.declared.side.Side.TheVariants.{Reading, Writing}
 use Rattle.qx_shared.proofs.OwnLemmas.{mapped-there, row_of-told}
 
-or_both : (a b : Bool) → (a || b) ≡ false → (a ≡ false) × (b ≡ false)
-or_both false b is = (refl, is)
-or_both true b is = absurd (cc)
-
 -- of those in one list or another
 any_both : {A : Type 0} (which : A → Bool) (xs ys : List A) → list_any which (xs ++ ys) ≡ false → (list_any which xs ≡ false) × (list_any which ys ≡ false)
-any_both which xs ys none = or_both (list_any which xs) (list_any which ys) (sym (list_any-append which xs ys) ∙ none)
+any_both which xs ys none = or_parts (list_any which xs) (list_any which ys) (sym (list_any-append which xs ys) ∙ none)
 
 pub list_any-mapped : {A B : Type 0} (f : A → B) (which : B → Bool) (xs : List A) → list_any which (map f xs) ≡ list_any (λ x. which (f x)) xs
 list_any-mapped f which [] = refl
@@ -199,10 +195,6 @@ any-implies p q implies (x ∷ xs) is = elim (or_true (p x) (list_any p xs) is) 
     or_right true = refl
     or_right false = refl
 
-and_left : (a b : Bool) → (a && b) ≡ true → a ≡ true
-and_left true b is = refl
-and_left false b is = is
-
 module _ (c : Queues) (all : List Rows) (user inode : ℕ) (which : WaitingCall → Bool) where
   -- whether one of those waits there
   abbrev pub held : Bool
@@ -259,7 +251,7 @@ module _ (c : Queues) (all : List Rows) (are : AreAllPipes c all) (thread : Thre
   holds-once once inode is other also =
       let here = holds-place inode is in
       let there = holds-place other also in
-      let has : (list : ℕ) → list_any of_thread (waiting_in_list c list) ≡ true → has_call (waiting_in_list c list) thread ≡ true = λ list. any-implies of_thread (λ own. is_same_thread (caller own) thread) (λ own. and_left (is_same_thread (caller own) thread) (own.call.call == call)) (waiting_in_list c list) in
+      let has : (list : ℕ) → list_any of_thread (waiting_in_list c list) ≡ true → has_call (waiting_in_list c list) thread ≡ true = λ list. any-implies of_thread (λ own. is_same_thread (caller own) thread) (λ own both. (and_parts (is_same_thread (caller own) thread) (own.call.call == call) both).0) (waiting_in_list c list) in
       let same : there.1 ≡ here.1 = once thread there.1 here.1 (has there.1 there.3) (has here.1 here.3) in
       ap (λ p. p.inode) (are.apart (place thread.proc.user.0 other there.0) (place thread.proc.user.0 inode here.0) here.1 (there.2 ∙ ap Some same) here.2)
 

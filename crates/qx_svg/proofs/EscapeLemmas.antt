@@ -1,14 +1,11 @@
 -- What is escaped is inert.
-use Rattle.std.proofs.Common.{arith, ◌≡◌, ◌∙◌, ◌<◌, ℕ, Bool, true, false, List, [], ◌∷◌, refl}
-use Rattle.std.specs.Prelude.{◌/◌, ◌%◌, ◌&&◌}
+use Rattle.std.proofs.Common.{arith, ◌≡◌, ◌∙◌, ◌<◌, ℕ, true, false, List, [], ◌∷◌, refl}
+use Rattle.std.specs.Prelude.{◌/◌, ◌%◌}
 use Rattle.std.specs.List.{flat_map, list_all}
 use Rattle.std.proofs.lemmas.Bool.Decides.{nat_tests}
 use Rattle.std.proofs.lemmas.List.Folds.{list_all-append}
+use Rattle.std.proofs.lemmas.Bool.{and_from}
 use Rattle.qx_svg.specs.Escape.{escaped, escaped_byte, hexadecimal_digit, is_inert, numbered}
-
-and_true : (a b : Bool) → a ≡ true → b ≡ true → (a && b) ≡ true
-and_true true b p q = q
-and_true false b p q = p
 
 digit_is_inert : (number : ℕ) → number < 16 → is_inert (hexadecimal_digit number) ≡ true
 digit_is_inert number small = grind (arith, nat_tests)
@@ -25,4 +22,4 @@ byte_is_inert byte = grind (arith, nat_tests, numbered_is_inert)
 
 pub escaped_is_inert : (plain : List ℕ) → list_all is_inert (escaped plain) ≡ true
 escaped_is_inert [] = refl
-escaped_is_inert (byte ∷ bytes) = list_all-append is_inert (escaped_byte byte) (escaped bytes) ∙ and_true (list_all is_inert (escaped_byte byte)) (list_all is_inert (escaped bytes)) (byte_is_inert byte) (escaped_is_inert bytes)
+escaped_is_inert (byte ∷ bytes) = list_all-append is_inert (escaped_byte byte) (escaped bytes) ∙ and_from (list_all is_inert (escaped_byte byte)) (list_all is_inert (escaped bytes)) (byte_is_inert byte) (escaped_is_inert bytes)

@@ -6,7 +6,7 @@ use Rattle.std.specs.Int.{w8, w16, w32, w64, to_le_bytes, cast_signed, cast_unsi
 use Rattle.std.proofs.Math.Seq.{drop-append_seam, take-append_seam}
 use Rattle.std.proofs.lemmas.List.{append-nil, length-append, length-take-le, take-append-drop}
 use Rattle.std.proofs.lemmas.Option.{same_Some}
-use Rattle.std.proofs.lemmas.Bool.{eqb-true, le-leb, leb-true, ltb-true}
+use Rattle.std.proofs.lemmas.Bool.{eqb-true, le-leb, leb-true, ltb-true, and_parts}
 use Rattle.std.proofs.lemmas.Bool.Decides.{nat_tests}
 use Rattle.std.proofs.lemmas.Int.{of_z-to_z, to_z-of_z}
 use mir.Val.{SFits}
@@ -23,7 +23,7 @@ use Rattle.qx_wire.specs.Rests.{joined, components_of, is_component, is_rest}
 use Rattle.qx_wire.specs.Table.{row, body, in_ranges, is_i64, whence_number, action_number}
 use Rattle.qx_wire.specs.Reading.{ended, open_at, mknod_at, read_at, dup_at, lseek_at, chmod_at, notify_at, notify_64_at, rename_at}
 use Rattle.qx_wire.proofs.RestLemmas.{joined_components, components_joined}
-use Rattle.qx_wire.proofs.FieldLemmas.{IsBytes, some_else_none, and_true, wide8, wide16, wide32, wide64, peel, put_back, number_again, ended_some}
+use Rattle.qx_wire.proofs.FieldLemmas.{IsBytes, some_else_none, wide8, wide16, wide32, wide64, peel, put_back, number_again, ended_some}
 
 -- the message is of that type and subtype, and its fields are the bytes
 pub record Has (t s : ℕ) (bytes : List ℕ) (m : Message) : Type 0 where
@@ -54,7 +54,7 @@ open_again f mode rest e =
     let f_fits : f.0 < 2 ^ 16 = grind (arith, nat_tests) in
     let mode_fits : mode < 2 ^ 16 = grind (arith, nat_tests) in
     let good : is_rest rest ≡ true = grind (arith, nat_tests) in
-    let same = components_joined rest (and_true (leb (length (joined rest)) PATH) (list_all is_component rest) good).1 in
+    let same = components_joined rest (and_parts (leb (length (joined rest)) PATH) (list_all is_component rest) good).1 in
     rw (number_again w16 (2 ^ 16) wide16 f.0 (to_le_bytes w16 mode ++ (joined rest ++ [])) f_fits, number_again w16 (2 ^ 16) wide16 mode (joined rest ++ []) mode_fits, append-nil, same) refl
 
 -- ---- READ
@@ -82,7 +82,7 @@ unlink_takes bytes m e = subst (λ (m : Message). Has 256 3 bytes m) (same_Some 
 
 -- a rest alone is cut into its components
 pub rest_again : (rest : List (List ℕ)) → is_rest rest ≡ true → components_of (joined rest ++ []) ≡ rest
-rest_again rest good = rw append-nil (components_joined rest (and_true (leb (length (joined rest)) PATH) (list_all is_component rest) good).1)
+rest_again rest good = rw append-nil (components_joined rest (and_parts (leb (length (joined rest)) PATH) (list_all is_component rest) good).1)
 
 -- ---- MKNOD
 
@@ -121,7 +121,7 @@ unfolding rename_at
 rename_again from to e =
     let good : is_rest from ≡ true = grind (arith, nat_tests) in
     let good_to : is_rest to ≡ true = grind (arith, nat_tests) in
-    let first = and_true (leb (length (joined from)) PATH) (list_all is_component from) good in
+    let first = and_parts (leb (length (joined from)) PATH) (list_all is_component from) good in
     let few : length (joined from) < 2 ^ 16 = let short = leb-true _ _ first.0 in omega (arith, short) in
     let long : leb (length (joined from)) (length (joined from ++ (joined to ++ []))) ≡ true = le-leb _ _ (let sum = length-append (joined from) (joined to ++ []) in omega (arith, sum)) in
     rw (number_again w16 (2 ^ 16) wide16 (length (joined from)) (joined from ++ (joined to ++ [])) few, long, take-append_seam, drop-append_seam, rest_again to good_to, components_joined from first.1) refl
@@ -184,7 +184,7 @@ bits_64 (negsuc n) e = omega arith
 pub lseek_again : (from : Whence) (by : ℤ) → in_ranges (msg.Lseek from by) ≡ true → lseek_at from (body (row (msg.Lseek from by)).fields) ≡ Some (msg.Lseek from by)
 unfolding lseek_at
 lseek_again from by e =
-    let good : is_i64 by ≡ true = (and_true (is_i64 by) true e).0 in
+    let good : is_i64 by ≡ true = (and_parts (is_i64 by) true e).0 in
     ap (λ (k : ℕ). Some (msg.Lseek from (cast_signed w64 k))) (wide64.again (cast_unsigned w64 by) (bits_64 by good)) ∙ ap (λ (z : ℤ). Some (msg.Lseek from z)) (to_z-of_z w64 by (fits_64 by good))
 
 -- ---- CHMOD

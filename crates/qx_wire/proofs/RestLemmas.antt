@@ -4,7 +4,7 @@ use Rattle.std.specs.Prelude.{position}
 use Rattle.std.specs.Int.{w16, to_le_bytes}
 use Rattle.std.specs.List.{list_all, slice_split, All, position_or_len}
 use Rattle.std.proofs.Math.Seq.{drop-append_seam, take-append_seam}
-use Rattle.std.proofs.lemmas.Bool.{ltb-false, ltb-true, leb-true}
+use Rattle.std.proofs.lemmas.Bool.{ltb-false, ltb-true, leb-true, and_parts}
 use Rattle.std.proofs.lemmas.Option.{cond_some}
 use Rattle.std.proofs.lemmas.List.{take_all, take-append-drop, length-drop, length-append, length-take, length-take-le}
 use Rattle.std.proofs.lemmas.List.Sums.{fails_before_first, AllPass-from_list_all}
@@ -58,25 +58,21 @@ pub record IsPart (c : List ℕ) : Type 0 where
   pub some : 0 < length c
   pub slash_free : All (λ x. slash x ≡ false) c
 
-and_true : (a b : Bool) → (a && b) ≡ true → (a ≡ true) × (b ≡ true)
-and_true true b e = (refl, e)
-and_true false b e = absurd cc
-
 name_byte : (x : ℕ) → is_name_byte x ≡ true → slash x ≡ false
 name_byte x e = elim (eqb x 47) as (λ v. (not (eqb x 0) && not v) ≡ true → v ≡ false) [ true ↦ λ h. absurd (elim (not (eqb x 0)) as (λ v. (v && false) ≡ true → ⊥) [ true ↦ λ g. cc | false ↦ λ g. cc ] h) | false ↦ λ h. refl ] e
 
 is_part : (c : List ℕ) → is_component c ≡ true → IsPart c
 is_part c e =
-    let a = and_true _ _ e in
-    let b = and_true _ _ a.0 in
-    let d = and_true _ _ b.0 in
+    let a = and_parts _ _ e in
+    let b = and_parts _ _ a.0 in
+    let d = and_parts _ _ b.0 in
     let all = AllPass-from_list_all is_name_byte c a.1 in
     record { some = leb-true 1 (length c) d.0; slash_free = λ k x lt. name_byte _ (all k x lt) }
 
 split_joined : (c : List ℕ) (cs : List (List ℕ)) → list_all is_component (c ∷ cs) ≡ true → slice_split slash (joined (c ∷ cs)) ≡ c ∷ cs
-split_joined c [] e = slice_split_none slash c (is_part c (and_true _ _ e).0).slash_free
+split_joined c [] e = slice_split_none slash c (is_part c (and_parts _ _ e).0).slash_free
 split_joined c (d ∷ cs) e =
-    let both = and_true _ _ e in
+    let both = and_parts _ _ e in
     slice_split_at slash c 47 (joined (d ∷ cs)) (is_part c both.0).slash_free refl ∙ ap (λ (ps : List (List ℕ)). c ∷ ps) (split_joined d cs both.1)
 
 joined_some : (c : List ℕ) (cs : List (List ℕ)) → IsPart c → length (joined (c ∷ cs)) ≡ 0 → ⊥
@@ -86,7 +82,7 @@ joined_some c (d ∷ cs) part e = omega (arith, part.some, length-append c (47 �
 pub components_joined : (cs : List (List ℕ)) → list_all is_component cs ≡ true → components_of (joined cs) ≡ cs
 unfolding components_of
 components_joined [] e = refl
-components_joined (c ∷ cs) e = components_some (joined (c ∷ cs)) (joined_some c cs (is_part c (and_true _ _ e).0)) ∙ split_joined c cs e
+components_joined (c ∷ cs) e = components_some (joined (c ∷ cs)) (joined_some c cs (is_part c (and_parts _ _ e).0)) ∙ split_joined c cs e
 
 -- ---- two rests
 

@@ -4,7 +4,7 @@ use Rattle.std.specs.List.{list_all}
 use Rattle.std.specs.Int.{w16, w32, to_le_bytes}
 use Rattle.std.proofs.lemmas.List.{append-nil, length-append}
 use Rattle.std.proofs.lemmas.Option.{same_Some}
-use Rattle.std.proofs.lemmas.Bool.{eqb-true, leb-true, le-leb, eq-eqb}
+use Rattle.std.proofs.lemmas.Bool.{eqb-true, leb-true, le-leb, eq-eqb, and_parts}
 use Rattle.std.proofs.lemmas.Bool.Decides.{nat_tests}
 use Rattle.qx_types.specs.declared.flags.OFlags.{OFlags}
 use Rattle.qx_types.specs.declared.limits.TheConstants.Limits.{BODY, COMPONENT, PATH, TRANSFER}
@@ -19,7 +19,7 @@ use Rattle.qx_wire.specs.Rests.{joined, components_of, is_component, is_rest}
 use Rattle.qx_wire.specs.Table.{row, body, in_ranges, framed, spelling, Spells, IsOfNoKind}
 use Rattle.qx_wire.specs.Laws.{IfKnown}
 use Rattle.qx_wire.specs.Reading.{ended, open_at, mknod_at, read_at, rename_at, dup_at, lseek_at, chmod_at, notify_at, notify_64_at, known_or_malformed, Case, cases, meaning_found, body_cut, Frame, frame_at, frame_cut, cut, judged, judged_where, meaning}
-use Rattle.qx_wire.proofs.FieldLemmas.{IsBytes, some_else_none, and_true, wide16, wide32, peel, put_back, number_again}
+use Rattle.qx_wire.proofs.FieldLemmas.{IsBytes, some_else_none, wide16, wide32, peel, put_back, number_again}
 use Rattle.qx_wire.proofs.ReadLemmas.{Has, Takes, open_takes, open_again, stat_takes, unlink_takes, rest_again, mknod_takes, mknod_again, rename_takes, rename_again, read_takes, read_again, write_takes, list_takes, close_takes, fstat_takes, dup_takes, dup_again, lseek_takes, lseek_again, chmod_takes, chmod_again, notify_takes, notify_again, notify_64_takes, notify_64_again}
 
 -- ---- cases
@@ -87,7 +87,7 @@ found_known t s bytes [] none m e = absurd cc
 found_known t s bytes (a ∷ others) (is ⊗ are) m e =
     elim (chosen (eqb t a.type && eqb s a.subtype) (known_or_malformed a.cut) (meaning_found t s others) (Known m) e) [
       | inl p ↦
-          let both = and_true (eqb t a.type) (eqb s a.subtype) p.0 in
+          let both = and_parts (eqb t a.type) (eqb s a.subtype) p.0 in
           let has = is.takes m (known_cut a.cut m p.1) in
           record { type = has.type ∙ sym (eqb-true _ _ both.0); subtype = has.subtype ∙ sym (eqb-true _ _ both.1); body = has.body }
       | inr p ↦ found_known t s bytes others are m p.1
@@ -98,7 +98,7 @@ not_found : (t s : ℕ) (bytes : List ℕ) (list : List Case) → AreCases bytes
 not_found t s bytes [] none absent = refl
 not_found t s bytes (a ∷ others) (is ⊗ are) absent =
     let k = is.kind in
-    let other : (eqb t a.type && eqb s a.subtype) ≡ false = not_true (eqb t a.type && eqb s a.subtype) (λ h. let both = and_true (eqb t a.type) (eqb s a.subtype) h in absent k.0 (k.1 ∙ sym (eqb-true _ _ both.0)) (k.2 ∙ sym (eqb-true _ _ both.1))) in
+    let other : (eqb t a.type && eqb s a.subtype) ≡ false = not_true (eqb t a.type && eqb s a.subtype) (λ h. let both = and_parts (eqb t a.type) (eqb s a.subtype) h in absent k.0 (k.1 ∙ sym (eqb-true _ _ both.0)) (k.2 ∙ sym (eqb-true _ _ both.1))) in
     rw other (not_found t s bytes others are absent)
 
 -- each message is of the type and subtype of a case
@@ -134,7 +134,7 @@ pub record IsRead (m : Message) : Type 0 where
 
 rest_short : (rest : List (List ℕ)) → is_rest rest ≡ true → length (joined rest ++ []) ≤ PATH
 rest_short rest good =
-    let short : length (joined rest) ≤ PATH = leb-true _ _ (and_true (leb (length (joined rest)) PATH) (list_all is_component rest) good).0 in
+    let short : length (joined rest) ≤ PATH = leb-true _ _ (and_parts (leb (length (joined rest)) PATH) (list_all is_component rest) good).0 in
     omega (arith, length-append (joined rest) [])
 
 rename_short : (from to : List (List ℕ)) → is_rest from ≡ true → is_rest to ≡ true → length (to_le_bytes w16 (length (joined from)) ++ (joined from ++ (joined to ++ []))) ≤ BODY
@@ -155,17 +155,17 @@ plain_short bytes n le = omega (arith, length-append bytes [])
 
 is_read : (m : Message) → in_ranges m ≡ true → IsRead m
 is_read (msg.Open f mode rest) e = record { again = ap known_or_malformed (open_again f mode rest e); type = omega arith; subtype = omega arith; short = let r = rest_short rest (grind (arith, nat_tests)) in omega arith }
-is_read (msg.Stat rest) e = record { again = ap known_or_malformed (ap (λ (r : List (List ℕ)). Some (msg.Stat r)) (rest_again rest (and_true (is_rest rest) true e).0)); type = omega arith; subtype = omega arith; short = let r = rest_short rest (and_true (is_rest rest) true e).0 in omega arith }
-is_read (msg.Unlink rest) e = record { again = ap known_or_malformed (ap (λ (r : List (List ℕ)). Some (msg.Unlink r)) (rest_again rest (and_true (is_rest rest) true e).0)); type = omega arith; subtype = omega arith; short = let r = rest_short rest (and_true (is_rest rest) true e).0 in omega arith }
+is_read (msg.Stat rest) e = record { again = ap known_or_malformed (ap (λ (r : List (List ℕ)). Some (msg.Stat r)) (rest_again rest (and_parts (is_rest rest) true e).0)); type = omega arith; subtype = omega arith; short = let r = rest_short rest (and_parts (is_rest rest) true e).0 in omega arith }
+is_read (msg.Unlink rest) e = record { again = ap known_or_malformed (ap (λ (r : List (List ℕ)). Some (msg.Unlink r)) (rest_again rest (and_parts (is_rest rest) true e).0)); type = omega arith; subtype = omega arith; short = let r = rest_short rest (and_parts (is_rest rest) true e).0 in omega arith }
 is_read (msg.Mknod mode rest) e = record { again = ap known_or_malformed (mknod_again mode rest e); type = omega arith; subtype = omega arith; short = let r = rest_short rest (grind (arith, nat_tests)) in omega arith }
 is_read (msg.Rename rests) e = record { again = ap known_or_malformed (rename_again rests.0 rests.1 e); type = omega arith; subtype = omega arith; short = rename_short rests.0 rests.1 (grind (arith, nat_tests)) (grind (arith, nat_tests)) }
 is_read (msg.Read n) e = record { again = ap known_or_malformed (read_again n e); type = omega arith; subtype = omega arith; short = omega arith }
-is_read (msg.Write payload) e = record { again = ap known_or_malformed (ap (λ (b : List ℕ). Some (msg.Write b)) (append-nil payload)); type = omega arith; subtype = omega arith; short = let r = plain_short payload TRANSFER (leb-true _ _ (and_true (leb (length payload) TRANSFER) true e).0) in omega arith }
+is_read (msg.Write payload) e = record { again = ap known_or_malformed (ap (λ (b : List ℕ). Some (msg.Write b)) (append-nil payload)); type = omega arith; subtype = omega arith; short = let r = plain_short payload TRANSFER (leb-true _ _ (and_parts (leb (length payload) TRANSFER) true e).0) in omega arith }
 is_read (msg.Dup old) e = record { again = ap known_or_malformed (dup_again old e); type = omega arith; subtype = omega arith; short = omega arith }
 is_read (msg.Lseek whence.Set by) e = record { again = ap known_or_malformed (lseek_again whence.Set by e); type = omega arith; subtype = omega arith; short = omega arith }
 is_read (msg.Lseek whence.Current by) e = record { again = ap known_or_malformed (lseek_again whence.Current by e); type = omega arith; subtype = omega arith; short = omega arith }
 is_read (msg.Lseek whence.End by) e = record { again = ap known_or_malformed (lseek_again whence.End by e); type = omega arith; subtype = omega arith; short = omega arith }
-is_read (msg.List after) e = record { again = ap known_or_malformed (ap (λ (b : List ℕ). Some (msg.List b)) (append-nil after)); type = omega arith; subtype = omega arith; short = let r = plain_short after COMPONENT (name_short after (and_true (eqb (length after) 0 || is_component after) true e).0) in omega arith }
+is_read (msg.List after) e = record { again = ap known_or_malformed (ap (λ (b : List ℕ). Some (msg.List b)) (append-nil after)); type = omega arith; subtype = omega arith; short = let r = plain_short after COMPONENT (name_short after (and_parts (eqb (length after) 0 || is_component after) true e).0) in omega arith }
 is_read (msg.Chmod mode) e = record { again = ap known_or_malformed (chmod_again mode e); type = omega arith; subtype = omega arith; short = omega arith }
 is_read (msg.Notify action.Poll c code (Bits32 value)) e = record { again = ap known_or_malformed (notify_again action.Poll c code value e); type = omega arith; subtype = omega arith; short = omega arith }
 is_read (msg.Notify action.Poll c code (Bits64 value)) e = record { again = ap known_or_malformed (notify_64_again action.Poll c code value e); type = omega arith; subtype = omega arith; short = omega arith }
@@ -193,7 +193,7 @@ frame_takes bytes f fits e =
     let l = peel w32 (2 ^ 32) wide32 s.rest _ f s.fits s.goes_on in
     let made : Frame = record { type = t.n; subtype = s.n; body = l.rest } in
     let g = some_else_none (eqb (length l.rest) l.n && leb l.n BODY) (Some made) f l.goes_on in
-    let both = and_true (eqb (length l.rest) l.n) (leb l.n BODY) g.0 in
+    let both = and_parts (eqb (length l.rest) l.n) (leb l.n BODY) g.0 in
     let len : length l.rest ≡ l.n = eqb-true _ _ both.0 in
     let back : to_le_bytes w16 t.n ++ (to_le_bytes w16 s.n ++ (to_le_bytes w32 l.n ++ l.rest)) ≡ bytes = put_back t _ (put_back s _ (put_back l _ refl)) in
     let short : l.n ≤ BODY = leb-true _ _ both.1 in

@@ -5,13 +5,14 @@ use Rattle.std.specs.List.{list_all}
 use Rattle.std.specs.Result.{result_ok}
 use Rattle.std.specs.Str.{bytes_eq}
 use Rattle.std.proofs.lemmas.List.Sums.{list_all-from_AllPass}
+use Rattle.std.proofs.lemmas.Bool.{and_from}
 use Rattle.hex.specs.Hex.{IsBytes, decode_of, decode_sized, encode_lower, encode_with, is_hex_digit, lower_digits}
 use Rattle.hex.proofs.HexLemmas.{decode_of-encode_lower, decode_of-ok, decode_sized-encode_lower, decode_sized-ok, decode_sized-twice, length-encode_with}
 use Rattle.qx_types.specs.Optional.{◌>>=◌}
 use Rattle.qx_words.specs.Kinds.{is_word, is_word_byte}
 use Rattle.qx_words.specs.WordText.{bytes_text}
 use Rattle.qx_words.specs.Words.{bytes_in_word, greatest_byte, hex_byte_of}
-use Rattle.qx_words.proofs.PlainWords.{all_weaker, and_true, hex_digit_in_word}
+use Rattle.qx_words.proofs.PlainWords.{all_weaker, hex_digit_in_word}
 use Rattle.qx_words.proofs.ReadValues.{bind_some, of_some}
 use Rattle.qx_words.proofs.ReadWords.{some_length}
 
@@ -41,7 +42,7 @@ bytes_again (byte ∷ bytes) are =
 digits_are_word : (byte : ℕ) (bytes : List ℕ) → IsBytes (byte ∷ bytes) → is_word (encode_lower (byte ∷ bytes)) ≡ true
 digits_are_word byte bytes are =
     let text = encode_lower (byte ∷ bytes) in
-    and_true (not (eqb (length text) 0)) (list_all is_word_byte text)
+    and_from (not (eqb (length text) 0)) (list_all is_word_byte text)
     (some_length (length text) (omega (arith, length-encode_with lower_digits (byte ∷ bytes))))
     (all_weaker is_hex_digit is_word_byte hex_digit_in_word text
     (list_all-from_AllPass is_hex_digit text (decode_of-ok text (byte ∷ bytes) (decode_of-encode_lower (byte ∷ bytes) are)).1))

@@ -7,16 +7,16 @@ use Rattle.std.specs.Int.{w64}
 use Rattle.std.specs.List.{list_all}
 use Rattle.std.specs.Str.Parse.{starts_with_minus}
 use Rattle.std.proofs.lemmas.Bool.Decides.{nat_tests}
+use Rattle.std.proofs.lemmas.Bool.{and_parts, and_from}
 use Rattle.qx_words.specs.Kinds.{is_word}
 use Rattle.qx_words.specs.Words.{negative, number_of, offset_of}
-use Rattle.qx_words.proofs.PlainWords.{and_true, both_true}
 use Rattle.qx_words.proofs.ReadValues.{mapped, number_within}
 use Rattle.qx_words.proofs.ReadWords.{digits, number_again, number_in_word, number_is_word, some_length}
 
 digit_is_no_minus : (word : List ℕ) → list_all is_ascii_digit word ≡ true → starts_with_minus word ≡ false
 digit_is_no_minus [] all = refl
 digit_is_no_minus (digit ∷ more) all =
-    let first = (both_true (is_ascii_digit digit) (list_all is_ascii_digit more) all).0 in
+    let first = (and_parts (is_ascii_digit digit) (list_all is_ascii_digit more) all).0 in
     grind (arith, nat_tests)
 
 without_minus : (n : ℕ) → n < 2 ^ 63 → offset_of (decimal n) ≡ option_map pos (number_of (2 ^ 63 - 1) (decimal n))
@@ -31,7 +31,7 @@ offset_again (negsuc n) fits = ap (option_map negative) (number_again (2 ^ 63) (
 pub offset_is_word : (offset : ℤ) → FitsSigned w64 offset → is_word (signed_decimal offset) ≡ true
 offset_is_word (pos n) fits = number_is_word n (omega (arith, fits.sfits))
 offset_is_word (negsuc n) fits =
-    and_true (not (eqb (length (signed_decimal (negsuc n))) 0)) _ (some_length (length (signed_decimal (negsuc n))) (omega arith))
+    and_from (not (eqb (length (signed_decimal (negsuc n))) 0)) _ (some_length (length (signed_decimal (negsuc n))) (omega arith))
     (number_in_word (suc n) (omega (arith, fits.sfits)))
 
 negative_within : (n : ℕ) → n ≤ 2 ^ 63 → FitsSigned w64 (negative n)

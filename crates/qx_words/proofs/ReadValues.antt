@@ -8,6 +8,7 @@ use Rattle.std.proofs.lemmas.Bool.Decides.{nat_tests}
 use Rattle.std.proofs.lemmas.List.Quantifiers.{position-Some}
 use Rattle.std.proofs.lemmas.Nat.{le_or_l, le_or_r, or_lt}
 use Rattle.std.proofs.lemmas.Option.{cond_some}
+use Rattle.std.proofs.lemmas.Bool.{and_parts, and_from}
 use Rattle.qx_types.specs.Optional.{◌>>=◌}
 use Rattle.qx_types.specs.declared.flags.OFlags.{OFlags}
 use Rattle.qx_types.specs.declared.limits.TheConstants.Limits.{MODE}
@@ -16,7 +17,7 @@ use Rattle.qx_types.specs.declared.names.Thread.{Thread}
 use Rattle.qx_types.specs.declared.names.User.{User}
 use Rattle.qx_words.specs.Kinds.{is_word, is_word_byte, CanNameUser, CanNameProcess, CanNameThread}
 use Rattle.qx_words.specs.Words.{around_dot, byte_of, flag_of, flags_after, flags_of, greatest_byte, is_numeral, lines_of, mode_of, number_of, numbered_user, octal_of, process_in_word, thread_in_word, three_of, user_in_word, with_flag, words_of}
-use Rattle.qx_words.proofs.PlainWords.{and_true, both_true, all_weaker}
+use Rattle.qx_words.proofs.PlainWords.{all_weaker}
 
 pub bind_some : {A B : Type 0} (known : Option A) (next : A → Option B) (y : B) → (known >>= next) ≡ Some y → (x : A) × (known ≡ Some x) × (next x ≡ Some y)
 bind_some None next y is = cc
@@ -37,7 +38,7 @@ pub number_within : (greatest : ℕ) (word : List ℕ) (n : ℕ) → number_of g
 unfolding number_of
 number_within greatest word n is =
     let parts = cond_some (is_numeral word && leb (digits_value 10 word) greatest) (digits_value 10 word) n is in
-    let below : leb (digits_value 10 word) greatest ≡ true = (both_true (is_numeral word) (leb (digits_value 10 word) greatest) parts.0).1 in
+    let below : leb (digits_value 10 word) greatest ≡ true = (and_parts (is_numeral word) (leb (digits_value 10 word) greatest) parts.0).1 in
     let within : digits_value 10 word ≤ greatest = grind (arith, nat_tests) in
     omega (arith, parts.1)
 
@@ -133,10 +134,10 @@ mode_within word mode is =
 
 split_head : (p q : ℕ → Bool) (x : ℕ) (pieces : List (List ℕ)) → (q x && not (p x)) ≡ true → list_all (list_all (λ y. q y && not (p y))) pieces ≡ true
     → list_all (list_all (λ y. q y && not (p y))) (onto_first x pieces) ≡ true
-split_head p q x [] is all = and_true _ true (and_true _ true is refl) refl
+split_head p q x [] is all = and_from _ true (and_from _ true is refl) refl
 split_head p q x (piece ∷ pieces) is all =
-    let parts = both_true (list_all (λ y. q y && not (p y)) piece) _ all in
-    and_true _ _ (and_true _ _ is parts.0) parts.1
+    let parts = and_parts (list_all (λ y. q y && not (p y)) piece) _ all in
+    and_from _ _ (and_from _ _ is parts.0) parts.1
 
 by_test : (b : Bool) (P : List (List ℕ) → Type 0) (xs ys : List (List ℕ)) → (b ≡ true → P xs) → (b ≡ false → P ys) → P (cond b xs ys)
 by_test true P xs ys passes fails = passes refl
@@ -145,17 +146,17 @@ by_test false P xs ys passes fails = fails refl
 pub pieces : (p q : ℕ → Bool) (xs : List ℕ) → list_all q xs ≡ true → list_all (list_all (λ x. q x && not (p x))) (slice_split p xs) ≡ true
 pieces p q [] all = refl
 pieces p q (x ∷ xs) all =
-    let parts = both_true (q x) (list_all q xs) all in
+    let parts = and_parts (q x) (list_all q xs) all in
     let rest = pieces p q xs parts.1 in
     by_test (p x) (λ split. list_all (list_all (λ y. q y && not (p y))) split ≡ true) ([] ∷ slice_split p xs) (onto_first x (slice_split p xs))
     (λ _. rest)
-    (λ other. split_head p q x (slice_split p xs) (and_true (q x) (not (p x)) parts.0 (ap not other)) rest)
+    (λ other. split_head p q x (slice_split p xs) (and_from (q x) (not (p x)) parts.0 (ap not other)) rest)
 
 lists_weaker : (p q : List ℕ → Bool) → ((x : List ℕ) → p x ≡ true → q x ≡ true) → (xs : List (List ℕ)) → list_all p xs ≡ true → list_all q xs ≡ true
 lists_weaker p q weaker [] all = refl
 lists_weaker p q weaker (x ∷ xs) all =
-    let parts = both_true (p x) (list_all p xs) all in
-    and_true (q x) (list_all q xs) (weaker x parts.0) (lists_weaker p q weaker xs parts.1)
+    let parts = and_parts (p x) (list_all p xs) all in
+    and_from (q x) (list_all q xs) (weaker x parts.0) (lists_weaker p q weaker xs parts.1)
 
 abbrev pub is_in_line : ℕ → Bool
 is_in_line byte = not (eqb byte 10)
@@ -170,14 +171,14 @@ lines_are_lines text =
     every (x ∷ xs) = every xs
 
 word_byte : (byte : ℕ) → (is_in_line byte && not (eqb byte 32)) ≡ true → is_word_byte byte ≡ true
-word_byte byte is = let parts = both_true (is_in_line byte) _ is in and_true (not (eqb byte 32)) (not (eqb byte 10)) parts.1 parts.0
+word_byte byte is = let parts = and_parts (is_in_line byte) _ is in and_from (not (eqb byte 32)) (not (eqb byte 10)) parts.1 parts.0
 
 words_kept : (xs : List (List ℕ)) → list_all (list_all is_word_byte) xs ≡ true → list_all is_word (filter (λ word. not (eqb (length word) 0)) xs) ≡ true
 words_kept [] all = refl
 words_kept (x ∷ xs) all =
-    let parts = both_true (list_all is_word_byte x) _ all in
+    let parts = and_parts (list_all is_word_byte x) _ all in
     by_test (not (eqb (length x) 0)) (λ words. list_all is_word words ≡ true) _ _
-    (λ some. and_true (is_word x) _ (and_true (not (eqb (length x) 0)) _ some parts.0) (words_kept xs parts.1))
+    (λ some. and_from (is_word x) _ (and_from (not (eqb (length x) 0)) _ some parts.0) (words_kept xs parts.1))
     (λ _. words_kept xs parts.1)
 
 pub words_are_words : (line : List ℕ) → list_all is_in_line line ≡ true → list_all is_word (words_of line) ≡ true

@@ -13,6 +13,7 @@ use Rattle.std.proofs.lemmas.List.FromFn.{get_or-map-range_with_len}
 use Rattle.std.proofs.lemmas.List.Sums.{position_or_len_is}
 use Rattle.std.proofs.lemmas.Option.{slice_get-get_or}
 use Rattle.std.proofs.lemmas.Slice.Eq.{bytes_eq-Decides}
+use Rattle.std.proofs.lemmas.Bool.{and_parts, and_from}
 use Rattle.qx_types.specs.Configuration.{Configuration, IsConfiguration, is_letter, is_letter_or_digit, is_user_name}
 use Rattle.qx_types.specs.declared.flags.OFlags.{OFlags}
 use Rattle.qx_types.specs.declared.limits.TheConstants.Limits.{MODE}
@@ -23,7 +24,7 @@ use Rattle.qx_words.specs.Kinds.{is_word, is_word_byte, CanNameUser, CanNameProc
 use Rattle.qx_words.specs.WordText.{flags_text, mode_text, process_text, thread_text, user_text}
 use Rattle.qx_words.specs.Words.{around_dot, byte_of, begins_well, flags_of, greatest_byte, is_numeral, mode_of, number_of, process_in_word, thread_in_word, user_in_word}
 use Rattle.qx_words.proofs.Numbers.{own}
-use Rattle.qx_words.proofs.PlainWords.{all_joined, all_weaker, and_true, both_true, digit_in_word, digit_is_no_dot, is_no_dot, name_byte_in_word, name_byte_is_no_dot}
+use Rattle.qx_words.proofs.PlainWords.{all_joined, all_weaker, digit_in_word, digit_is_no_dot, is_no_dot, name_byte_in_word, name_byte_is_no_dot}
 
 -- numbers
 
@@ -50,7 +51,7 @@ number_again greatest n within fits =
     let value : digits_value 10 (decimal n) ≡ n = digits_value-decimal own n small in
     let below : leb (digits_value 10 (decimal n)) greatest ≡ true = rw value (grind (arith, nat_tests)) in
     chosen (is_numeral (decimal n) && leb (digits_value 10 (decimal n)) greatest) (Some (digits_value 10 (decimal n))) None
-    (and_true (is_numeral (decimal n)) _ (and_true (list_all is_ascii_digit (decimal n)) _ (digits n small) (begins n small)) below)
+    (and_from (is_numeral (decimal n)) _ (and_from (list_all is_ascii_digit (decimal n)) _ (digits n small) (begins n small)) below)
     ∙ ap Some value
 
 pub some_length : (n : ℕ) → 0 < n → not (eqb n 0) ≡ true
@@ -58,7 +59,7 @@ some_length n some = grind (arith, nat_tests)
 
 pub number_is_word : (n : ℕ) → n < 2 ^ 64 → is_word (decimal n) ≡ true
 number_is_word n small =
-    and_true (not (eqb (length (decimal n)) 0)) _ (some_length _ (decimal_nonempty n small))
+    and_from (not (eqb (length (decimal n)) 0)) _ (some_length _ (decimal_nonempty n small))
     (all_weaker is_ascii_digit is_word_byte digit_in_word (decimal n) (digits n small))
 
 -- users
@@ -108,13 +109,13 @@ or_true false b is = cc
 name_bytes : (name : List ℕ) → is_user_name name ≡ true → (0 < length name) × (list_all is_letter_or_digit name ≡ true)
 name_bytes [] good = cc
 name_bytes (first ∷ rest) good =
-    let parts = both_true (is_letter first && list_all is_letter_or_digit rest) _ good in
-    let letters = both_true (is_letter first) (list_all is_letter_or_digit rest) parts.0 in
-    (omega arith, and_true (is_letter_or_digit first) _ (or_true (is_letter first) _ letters.0) letters.1)
+    let parts = and_parts (is_letter first && list_all is_letter_or_digit rest) _ good in
+    let letters = and_parts (is_letter first) (list_all is_letter_or_digit rest) parts.0 in
+    (omega arith, and_from (is_letter_or_digit first) _ (or_true (is_letter first) _ letters.0) letters.1)
 
 pub name_is_word : (name : List ℕ) → is_user_name name ≡ true → is_word name ≡ true
 name_is_word name good =
-    and_true (not (eqb (length name) 0)) _ (some_length _ (name_bytes name good).0)
+    and_from (not (eqb (length name) 0)) _ (some_length _ (name_bytes name good).0)
     (all_weaker is_letter_or_digit is_word_byte name_byte_in_word name (name_bytes name good).1)
 
 name_has_no_dot : (name : List ℕ) → is_user_name name ≡ true → list_all is_no_dot name ≡ true
@@ -142,7 +143,7 @@ user_has_no_dot config user valid can = user_text_by_name (list_all is_no_dot) n
 before_dot : (before after : List ℕ) → list_all is_no_dot before ≡ true → position_or_len (λ byte. eqb byte 46) (before ++ 46 ∷ after) ≡ length before
 before_dot [] after plain = refl
 before_dot (byte ∷ before) after plain =
-    let parts = both_true (is_no_dot byte) (list_all is_no_dot before) plain in
+    let parts = and_parts (is_no_dot byte) (list_all is_no_dot before) plain in
     chosen (is_no_dot byte) _ _ parts.0 ∙ ap (λ n. 1 + n) (before_dot before after parts.1) ∙ omega arith
 
 pub around_again : (before after : List ℕ) → list_all is_no_dot before ≡ true → around_dot (before ++ 46 ∷ after) ≡ Some (before, after)
@@ -188,9 +189,9 @@ thread_again config thread valid can =
 
 dotted : (first second : List ℕ) → is_word first ≡ true → list_all is_word_byte second ≡ true → is_word (first ++ 46 ∷ second) ≡ true
 dotted first second is plain =
-    let parts = both_true (not (eqb (length first) 0)) (list_all is_word_byte first) is in
+    let parts = and_parts (not (eqb (length first) 0)) (list_all is_word_byte first) is in
     let longer : 0 < length (first ++ 46 ∷ second) = grind (arith, common_steps) in
-    and_true (not (eqb (length (first ++ 46 ∷ second)) 0)) _ (some_length _ longer) (all_joined is_word_byte first (46 ∷ second) parts.1 plain)
+    and_from (not (eqb (length (first ++ 46 ∷ second)) 0)) _ (some_length _ longer) (all_joined is_word_byte first (46 ∷ second) parts.1 plain)
 
 pub number_in_word : (n : ℕ) → n < 2 ^ 64 → list_all is_word_byte (decimal n) ≡ true
 number_in_word n small = all_weaker is_ascii_digit is_word_byte digit_in_word (decimal n) (digits n small)
