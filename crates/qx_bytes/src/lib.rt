@@ -6,7 +6,7 @@
 pub mod buffer;
 pub mod message;
 
-ghost use Rattle.std.specs.Prelude.{◌≡◌, ◌==◌, IfOk, length, []};
+ghost use Rattle.std.specs.Prelude.{◌≡◌, ◌==◌, IfOk, length, take, []};
 ghost use Rattle.std.specs.Str.{bytes_eq};
 
 pub use buffer::Buffer;
@@ -60,6 +60,14 @@ impl Bytes {
         Ok(Bytes {
             items: Vec::from_slice(alloc, bytes)?,
         })
+    }
+
+    /// Keeps the first bytes, at most so many, in the memory that they stand in; all other memory is given back.
+    pub fn keep_first(&mut self, most: usize)
+        ensures { self.new ≡ take most self.old }
+    {
+        self.items.truncate(most);
+        self.items.shrink_to_fit();
     }
 
     /// The bytes as a slice.

@@ -4,7 +4,7 @@
 ghost use Rattle.std.specs.Prelude.{◌≡◌};
 ghost use Rattle.qx_cut.specs.Cut.{bytes_of_outcome, bytes_of_request, bytes_of_step, cut, cut_outcome, cut_request, cut_step};
 
-use qx_types::{Bytes, MessageBytes, Outcome, Request, Step};
+use qx_types::{MessageBytes, Outcome, Request, Step};
 use std::alloc::Global;
 
 /// How many bytes a recorder keeps of a path, of what is written or sent, and of a reply: the first ones (this profile).
@@ -14,22 +14,13 @@ pub const KEPT: usize = MessageBytes::INLINE;
 pub fn cut_step(step: Step) -> Step
     ensures { result ≡ cut_step step }
 {
-    match step {
-        Step::Call { thread, request } => Step::Call {
-            thread,
-            request: cut_request(request),
-        },
-        Step::Mount {
-            thread,
-            path,
-            manager,
-        } => Step::Mount {
-            thread,
-            path: cut(path),
-            manager,
-        },
-        other => other,
+    let mut step = step;
+    match &mut step {
+        Step::Call { request, .. } => cut_request(request),
+        Step::Mount { path, .. } => path.keep_first(KEPT),
+        _ => {}
     }
+    step
 }
 
 /// A copy of an outcome, with the bytes of a reply cut to the first `KEPT`.
@@ -75,16 +66,6 @@ pub fn bytes_of_outcome(outcome: &Outcome) -> usize
     }
 }
 
-/// The first bytes, in the memory that they stand in; all other memory is given back.
-fn cut(bytes: Bytes) -> Bytes
-    ensures { result ≡ cut bytes }
-{
-    let mut items = bytes.into_vec();
-    items.truncate(KEPT);
-    items.shrink_to_fit();
-    Bytes::from_vec(items)
-}
-
 /// A copy of the first bytes.
 fn first_of(alloc: Global, bytes: &[u8]) -> MessageBytes
     ensures { result ≡ cut bytes.now }
@@ -95,39 +76,22 @@ fn first_of(alloc: Global, bytes: &[u8]) -> MessageBytes
     MessageBytes::inline(alloc, &bytes[..KEPT])
 }
 
-/// A request with each of its byte strings cut.
-fn cut_request(request: Request) -> Request
-    ensures { result ≡ cut_request request }
+/// Cuts each of a request's byte strings.
+fn cut_request(request: &mut Request)
+    ensures { request.new ≡ cut_request request.old }
 {
     match request {
-        Request::OpenPath { flags, mode, path } => Request::OpenPath {
-            flags,
-            mode,
-            path: cut(path),
-        },
-        Request::StatPath { path } => Request::StatPath { path: cut(path) },
-        Request::Unlink { path } => Request::Unlink { path: cut(path) },
-        Request::Mkdir { mode, path } => Request::Mkdir {
-            mode,
-            path: cut(path),
-        },
-        Request::Rename { from, to } => Request::Rename {
-            from: cut(from),
-            to: cut(to),
-        },
-        Request::Write { coid, bytes } => Request::Write {
-            coid,
-            bytes: cut(bytes),
-        },
-        Request::List { coid, after } => Request::List {
-            coid,
-            after: cut(after),
-        },
-        Request::Raw { coid, bytes } => Request::Raw {
-            coid,
-            bytes: cut(bytes),
-        },
-        other => other,
+        Request::OpenPath { path, .. }
+        | Request::StatPath { path }
+        | Request::Unlink { path }
+        | Request::Mkdir { path, .. } => path.keep_first(KEPT),
+        Request::Rename { from, to } => {
+            from.keep_first(KEPT);
+            to.keep_first(KEPT);
+        }
+        Request::Write { bytes, .. } | Request::Raw { bytes, .. } => bytes.keep_first(KEPT),
+        Request::List { after, .. } => after.keep_first(KEPT),
+        _ => {}
     }
 }
 

@@ -8,7 +8,7 @@ use std::alloc::AllocError;
 
 /// What a client asks of a resource manager. The ranges of the fields are those of the messages (`docs/FORMATS.md`); a
 /// path is judged as a path, and a connection by whether it is there.
-#[derive(Debug, Drop, PartialEq, Eq)]
+#[derive(Debug, PartialEq, Eq)]
 pub enum Request {
     // Bytes stand last in each, behind what has place beside the kind. So a request would take 32 bytes, but that a rename has
     // two paths: it takes 56.
@@ -97,6 +97,50 @@ pub enum Request {
         coid: Coid,
         bytes: Bytes,
     },
+}
+
+/// As it would be derived, for the reason at `Step`.
+impl Drop for Request {
+    fn drop(self) {
+        match self {
+            Request::OpenPath {
+                flags: _,
+                mode: _,
+                path: _,
+            }
+            | Request::StatPath { path: _ }
+            | Request::Unlink { path: _ }
+            | Request::Mkdir { mode: _, path: _ }
+            | Request::Rename { from: _, to: _ }
+            | Request::Read { coid: _, count: _ }
+            | Request::Write { coid: _, bytes: _ }
+            | Request::Close { coid: _ }
+            | Request::Dup { coid: _ }
+            | Request::Seek {
+                coid: _,
+                whence: _,
+                by: _,
+            }
+            | Request::Fstat { coid: _ }
+            | Request::List { coid: _, after: _ }
+            | Request::Chmod { coid: _, mode: _ }
+            | Request::Notify {
+                coid: _,
+                action: _,
+                conds: _,
+                code: _,
+                value: _,
+            }
+            | Request::Notify64 {
+                coid: _,
+                action: _,
+                conds: _,
+                code: _,
+                value: _,
+            }
+            | Request::Raw { coid: _, bytes: _ } => {}
+        }
+    }
 }
 
 // Written out and not derived, so that its contract says outright that the copy is equal.

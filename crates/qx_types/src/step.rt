@@ -7,7 +7,7 @@ use qx_bytes::Bytes;
 use std::alloc::AllocError;
 
 /// One step of the system, taken by a client or by a worker.
-#[derive(Debug, Drop, PartialEq, Eq)]
+#[derive(Debug, PartialEq, Eq)]
 pub enum Step {
     /// Starts a process of so many threads, each of that priority.
     Spawn {
@@ -60,6 +60,41 @@ pub enum Step {
         worker: Worker,
         moment: u64,
     },
+}
+
+/// As it would be derived; but what drops a step is proved with one call at each exit, and not with a case for each kind.
+impl Drop for Step {
+    fn drop(self) {
+        match self {
+            Step::Spawn {
+                user: _,
+                threads: _,
+                prio: _,
+            }
+            | Step::Exit { proc: _ }
+            | Step::Call {
+                thread: _,
+                request: _,
+            }
+            | Step::TakeReply { thread: _ }
+            | Step::TakePulse { proc: _ }
+            | Step::SetPrio { thread: _, prio: _ }
+            | Step::Interrupt { thread: _ }
+            | Step::Mount {
+                thread: _,
+                path: _,
+                manager: _,
+            }
+            | Step::Receive {
+                worker: _,
+                manager: _,
+            }
+            | Step::Perform {
+                worker: _,
+                moment: _,
+            } => {}
+        }
+    }
 }
 
 impl Step {

@@ -2,7 +2,7 @@
 
 use qx_pool::{Clock, Gate};
 use qx_script::{Command, Script, parse};
-use qx_types::{Item, NoMemory, Step, Worker};
+use qx_types::{Item, NoMemory, Request, Step, Thread, Worker};
 use std::alloc::Global;
 use std::process::Abort;
 use std::sync::Wait;
@@ -12,7 +12,9 @@ use std::time::Duration;
 /// What a line asks for.
 #[derive(Debug, Drop)]
 pub(crate) enum Act {
-    /// A line of a script: takes that step of a client, and waits for the answer if it is a call.
+    /// A line of a script, a call: makes it, and waits for its answer.
+    Call(Thread, Request),
+    /// Another line of a script: takes that step of a client.
     Take(Step),
     /// `until LINE`: takes that step again and again, until it is `WrongState`.
     Until(Step),
@@ -50,7 +52,10 @@ pub(crate) fn read(
         Some(("await", count)) => Act::Await(count.parse().expect(rt, "a number")),
         Some(("work", number)) => Act::Work(Worker(number.parse().expect(rt, "a number"))),
         Some(("until", line)) => Act::Until(step(rt, alloc, users, line)?),
-        _ => Act::Take(step(rt, alloc, users, line)?),
+        _ => match step(rt, alloc, users, line)? {
+            Step::Call { thread, ref request } => Act::Call(thread, request.clone()?),
+            step => Act::Take(step),
+        },
     })
 }
 

@@ -96,7 +96,7 @@ where
     let mut helper = ClientOf::new(seat, thread(1, 1));
     for act in acts {
         match act {
-            Act::Take(Step::Call { thread, request }) => {
+            Act::Call(thread, request) => {
                 let mut client = ClientOf::new(helper.into_seat(), thread);
                 let end = client.call(rt, server, request);
                 let seat = client.into_seat();

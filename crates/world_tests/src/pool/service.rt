@@ -46,9 +46,9 @@ fn take_all(rt: &impl Wait, service: &Service, taken: Vec<Step>) -> bool {
 /// The requests of calls.
 fn requests(rt: &impl Abort, alloc: Global, calls: &str) -> Result<Vec<Request>, NoMemory> {
     let mut requests = Vec::new(alloc);
-    for step in steps(rt, alloc, calls)? {
+    for step in &steps(rt, alloc, calls)? {
         match step {
-            Step::Call { thread: _, request } => requests.push(request)?,
+            Step::Call { request, .. } => requests.push(request.clone()?)?,
             _ => panic!(rt; "a line that is no call"),
         }
     }
