@@ -81,16 +81,17 @@ fn cut_request(request: &mut Request)
     ensures { request.new ≡ cut_request request.old }
 {
     match request {
-        Request::OpenPath { path, .. }
-        | Request::StatPath { path }
-        | Request::Unlink { path }
-        | Request::Mkdir { path, .. } => path.keep_first(KEPT),
+        Request::OpenPath { path, .. } => path.keep_first(KEPT),
+        Request::StatPath { path } => path.keep_first(KEPT),
+        Request::Unlink { path } => path.keep_first(KEPT),
+        Request::Mkdir { path, .. } => path.keep_first(KEPT),
         Request::Rename { from, to } => {
             from.keep_first(KEPT);
             to.keep_first(KEPT);
         }
-        Request::Write { bytes, .. } | Request::Raw { bytes, .. } => bytes.keep_first(KEPT),
+        Request::Write { bytes, .. } => bytes.keep_first(KEPT),
         Request::List { after, .. } => after.keep_first(KEPT),
+        Request::Raw { bytes, .. } => bytes.keep_first(KEPT),
         _ => {}
     }
 }

@@ -89,7 +89,8 @@ impl<S: UnderLock> ServerOf<S> {
         self.locked.lock(rt)
     }
 
-    /// Takes the lock once what is awaited came, or the server was stopped. Until then a thread spins, and sleeps then.
+    /// Takes the lock once what is awaited came, or the server was stopped. Until then a thread spins, and sleeps then. A worker that
+    /// comes for an item counts as one that looks for it.
     pub(crate) fn lock_for<R: Wait>(
         &self,
         rt: &R,
@@ -97,6 +98,9 @@ impl<S: UnderLock> ServerOf<S> {
         awaited: Awaited,
     ) -> MutexGuard<'_, Locked<S>> {
         let mut guard = self.lock(rt);
+        if let Awaited::Item = awaited {
+            guard.stop_looking();
+        }
         if !guard.waits_for(awaited) {
             return guard;
         }

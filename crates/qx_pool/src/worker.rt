@@ -52,7 +52,8 @@ pub fn worker_loop<S: UnderLock, G: Gate, C: Clock, R: Wait>(
     seat
 }
 
-/// Performs what the worker holds, if anything. False where the loop ends, as one does whose worker is none.
+/// Performs what the worker holds, if anything, and looks for an item from then on. False where the loop ends, as one does whose
+/// worker is none.
 fn resume<S: UnderLock, C: Clock, R: Wait>(
     rt: &R,
     server: &ServerOf<S>,
@@ -62,9 +63,12 @@ fn resume<S: UnderLock, C: Clock, R: Wait>(
 ) -> bool
     ensures { Works S.adds S.keeps worker.0 seat.old seat.new }
 {
-    let guard = server.lock(rt);
+    let mut guard = server.lock(rt);
     let is_worker = guard.is_worker(worker);
     let held = guard.held(worker);
+    if is_worker && matches!(held, Ok(None)) {
+        guard.start_looking();
+    }
     drop(guard);
     if !is_worker {
         return false;
@@ -79,8 +83,8 @@ fn resume<S: UnderLock, C: Clock, R: Wait>(
     }
 }
 
-/// Waits for an item, takes it, and copies it; where another one stands in a line, one more worker is woken. None where the
-/// loop ends.
+/// Waits for an item, which the worker looks for, takes it, and copies it; where another one stands in a line, one more worker is
+/// woken. None where the loop ends.
 fn receive<S: UnderLock, R: Wait>(
     rt: &R,
     server: &ServerOf<S>,
@@ -105,7 +109,8 @@ fn receive<S: UnderLock, R: Wait>(
     }
 }
 
-/// Performs what the worker holds, and wakes who was answered by that. False where the loop ends.
+/// Performs what the worker holds, and wakes who was answered by that; the worker looks for an item from then on. False where the
+/// loop ends.
 fn perform<S: UnderLock, C: Clock, R: Wait>(
     rt: &R,
     server: &ServerOf<S>,
@@ -121,6 +126,9 @@ fn perform<S: UnderLock, C: Clock, R: Wait>(
     let user = guard.user_of_work(worker);
     let done = guard.under.perform(seat, worker, &work, moment);
     let released = user.map(|user| guard.released(user));
+    if matches!(done, Ok(Outcome::Handled)) {
+        guard.start_looking();
+    }
     drop(guard);
     if let Some(released) = released {
         server.wake_clients(released);
