@@ -91,6 +91,8 @@ impl<S: UnderLock> ClientOf<S> {
             .under
             .take(&mut self.seat, Step::Call { thread, request });
         let woken = guard.woken();
+        let answer = Awaited::OfThread(Coming::Answer, thread);
+        let begun = server.begin(&mut guard, answer);
         drop(guard);
         let Ok(outcome) = called else {
             return CallEnd::NoMemory;
@@ -99,8 +101,7 @@ impl<S: UnderLock> ClientOf<S> {
             return end_of(outcome);
         }
         server.wake_worker(woken);
-        let answer = Awaited::OfThread(Coming::Answer, thread);
-        let mut guard = server.lock_for(rt, &mut self.spinner, answer);
+        let mut guard = server.lock_for(rt, &mut self.spinner, answer, begun);
         if guard.world().blocked(thread) {
             return CallEnd::Stopped;
         }
@@ -117,7 +118,8 @@ impl<S: UnderLock> ClientOf<S> {
     {
         let proc = self.thread.proc;
         let pulse = Awaited::OfThread(Coming::Pulse, Thread { proc, tid: 1 });
-        let mut guard = server.lock_for(rt, &mut self.spinner, pulse);
+        let begun = server.begin(&mut server.lock(rt), pulse);
+        let mut guard = server.lock_for(rt, &mut self.spinner, pulse, begun);
         if guard.is_stopped() || guard.world().lacks_pulse(proc) {
             return PulseEnd::Stopped;
         }

@@ -24,8 +24,7 @@ pub(crate) struct Locked<S> {
     answers: Waits,
     /// The first threads of the processes for whose pulses clients wait.
     pulses: Waits,
-    /// How many workers look for an item without the lock, or come from a perform to do so. Each looks under it once more before it
-    /// sleeps.
+    /// How many workers look for an item without the lock. Each looks under it once more before it sleeps.
     looking: u32,
     is_stopped: bool,
 }

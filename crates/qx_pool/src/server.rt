@@ -4,7 +4,7 @@ ghost use Rattle.std.specs.Prelude.{◌≡◌, IfOk, vec_len};
 ghost use Rattle.qx_pool.specs.declared.waits.TheConstants.{THREADS};
 
 use crate::locked::Locked;
-use crate::spinner::{Spinner, TRIES, pause, spin};
+use crate::spinner::{Begun, Spinner, TRIES, pause};
 use crate::waits::{Awaited, THREADS, ThreadSet, Woken, place_of};
 use qx_world::UnderLock;
 use std::alloc::{AllocError, Global};
@@ -89,59 +89,50 @@ impl<S: UnderLock> ServerOf<S> {
         self.locked.lock(rt)
     }
 
-    /// Takes the lock once what is awaited came, or the server was stopped. Until then a thread spins, and sleeps then. A worker that
-    /// comes for an item counts as one that looks for it.
+    /// A thread begins to wait for this, under the lock.
+    pub(crate) fn begin(&self, locked: &mut Locked<S>, awaited: Awaited) -> Begun {
+        if locked.waits_for(awaited) {
+            Begun::Seen(self.watched(awaited).notifications())
+        } else {
+            Begun::There
+        }
+    }
+
+    /// A worker that is free begins to wait for an item, under the lock, and counts as one that looks for it until it has the lock
+    /// again. None where it isn't free.
+    pub(crate) fn look(&self, locked: &mut Locked<S>, is_free: bool) -> Option<Begun> {
+        if !is_free {
+            return None;
+        }
+        locked.start_looking();
+        Some(self.begin(locked, Awaited::Item))
+    }
+
+    /// Takes the lock once what is awaited came, or the server was stopped. A thread that began to wait spins until then, and sleeps
+    /// then.
     pub(crate) fn lock_for<R: Wait>(
         &self,
         rt: &R,
         spinner: &mut Spinner,
         awaited: Awaited,
+        begun: Begun,
     ) -> MutexGuard<'_, Locked<S>> {
+        let has_spun = match begun {
+            Begun::There => false,
+            Begun::Seen(seen) => spinner.spin(self.watched(awaited), seen),
+        };
         let mut guard = self.lock(rt);
         if let Awaited::Item = awaited {
             guard.stop_looking();
         }
-        if !guard.waits_for(awaited) {
-            return guard;
+        if guard.waits_for(awaited) {
+            let bell = self.bell(awaited);
+            return bell.wait_while(rt, guard, |locked| locked.waits_for(awaited));
         }
-        let looks = spinner.begin();
-        if looks > 0 {
-            guard = self.spin(rt, guard, awaited, looks);
-            if !guard.waits_for(awaited) {
-                spinner.paid();
-                return guard;
-            }
+        if has_spun {
+            spinner.paid();
         }
-        let bell = self.bell(awaited);
-        bell.wait_while(rt, guard, |locked| locked.waits_for(awaited))
-    }
-
-    /// Lets go the lock, spins, and takes it again. Meanwhile a worker counts as one that looks for an item.
-    fn spin<R: Wait>(
-        &self,
-        rt: &R,
-        mut guard: MutexGuard<'_, Locked<S>>,
-        awaited: Awaited,
-        looks: u32,
-    ) -> MutexGuard<'_, Locked<S>> {
-        match awaited {
-            Awaited::Item => {
-                let seen = self.looks.notifications();
-                guard.start_looking();
-                drop(guard);
-                spin(&self.looks, seen, looks);
-                let mut guard = self.lock(rt);
-                guard.stop_looking();
-                guard
-            }
-            Awaited::OfThread(_, _) => {
-                let bell = self.bell(awaited);
-                let seen = bell.notifications();
-                drop(guard);
-                spin(bell, seen, looks);
-                self.lock(rt)
-            }
-        }
+        guard
     }
 
     /// Wakes this worker, where there is one.
@@ -163,6 +154,14 @@ impl<S: UnderLock> ServerOf<S> {
     fn ring(&self, mut threads: ThreadSet) {
         'waking: while let Some(thread) = threads.pop() {
             self.bells[place_of(thread)].notify_all();
+        }
+    }
+
+    /// What a thread watches that spins for this.
+    fn watched(&self, awaited: Awaited) -> &Condvar {
+        match awaited {
+            Awaited::Item => &self.looks,
+            Awaited::OfThread(_, _) => self.bell(awaited),
         }
     }
 

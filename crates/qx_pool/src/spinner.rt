@@ -15,6 +15,15 @@ const TRIAL: u32 = 64;
 
 const LONG: u32 = 16_000;
 
+/// How a wait began, as was seen under the lock.
+#[derive(Clone, Copy, Debug)]
+pub(crate) enum Begun {
+    /// What is awaited was there.
+    There,
+    /// It wasn't, after so many notifications.
+    Seen(u64),
+}
+
 /// Whether a thread spins before it sleeps. Where what it waits for comes within the spin, as by a thread on another
 /// processor, neither has to ask the kernel; where it doesn't, as on one processor, or where another thread takes it first,
 /// the time is lost. So it spins as long as that pays.
@@ -30,8 +39,9 @@ impl Spinner {
         Spinner { vain: 0 }
     }
 
-    /// A wait begins. How often to look before the thread sleeps, 0 where a spin hardly pays.
-    pub(crate) fn begin(&mut self) -> u32 {
+    /// Waits for more notifications than were seen, for a while, or not at all where that hardly pays; and whether it did. What came
+    /// meanwhile is known under the lock alone.
+    pub(crate) fn spin(&mut self, bell: &Condvar, seen: u64) -> bool {
         let looks = if self.vain < VAIN {
             LOOKS
         } else if self.vain.is_multiple_of(TRIAL) {
@@ -40,22 +50,18 @@ impl Spinner {
             0
         };
         self.vain = self.vain.wrapping_add(1);
-        looks
+        for _ in 0..looks {
+            if bell.notifications() != seen {
+                break;
+            }
+            spin_loop();
+        }
+        looks > 0
     }
 
     /// What the thread waited for is there after its spin.
     pub(crate) fn paid(&mut self) {
         self.vain = 0;
-    }
-}
-
-/// Waits for more notifications than were seen, and looks at most so often.
-pub(crate) fn spin(bell: &Condvar, seen: u64, looks: u32) {
-    for _ in 0..looks {
-        if bell.notifications() != seen {
-            return;
-        }
-        spin_loop();
     }
 }
 

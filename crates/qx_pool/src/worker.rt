@@ -4,7 +4,7 @@ ghost use Rattle.qx_world.specs.Seats.{Works};
 
 use crate::locked::HeldCopy;
 use crate::server::ServerOf;
-use crate::spinner::Spinner;
+use crate::spinner::{Begun, Spinner};
 use crate::waits::Awaited;
 use qx_types::{Item, Outcome, Worker};
 use qx_wire::Parsed;
@@ -36,65 +36,67 @@ pub fn worker_loop<S: UnderLock, G: Gate, C: Clock, R: Wait>(
 {
     let mut seat = seat;
     let mut spinner = Spinner::new();
-    if !resume(rt, server, &mut seat, worker, clock) {
+    let Some(mut begun) = resume(rt, server, &mut seat, worker, clock) else {
         return seat;
-    }
+    };
     'working: for _ in rt.forever() {
-        let Some((item, held)) = receive(rt, server, &mut seat, worker, &mut spinner) else {
+        let received = receive(rt, server, &mut seat, worker, &mut spinner, begun);
+        let Some((item, held)) = received else {
             return seat;
         };
         let work = decoded(held);
         gate.between(rt, worker, item);
-        if !perform(rt, server, &mut seat, worker, work, clock) {
+        let Some(next) = perform(rt, server, &mut seat, worker, work, clock) else {
             return seat;
-        }
+        };
+        begun = next;
     }
     seat
 }
 
-/// Performs what the worker holds, if anything, and looks for an item from then on. False where the loop ends, as one does whose
-/// worker is none.
+/// Performs what the worker holds, if anything, and begins to wait for an item. None where the loop ends, as one does whose worker
+/// is none.
 fn resume<S: UnderLock, C: Clock, R: Wait>(
     rt: &R,
     server: &ServerOf<S>,
     seat: &mut S::Seat,
     worker: Worker,
     clock: &C,
-) -> bool
+) -> Option<Begun>
     ensures { Works S.adds S.keeps worker.0 seat.old seat.new }
 {
     let mut guard = server.lock(rt);
     let is_worker = guard.is_worker(worker);
     let held = guard.held(worker);
-    if is_worker && matches!(held, Ok(None)) {
-        guard.start_looking();
-    }
+    let is_free = is_worker && matches!(held, Ok(None));
+    let begun = server.look(&mut guard, is_free);
     drop(guard);
     if !is_worker {
-        return false;
+        return None;
     }
     match held {
         Ok(Some(held)) => perform(rt, server, seat, worker, decoded(held), clock),
-        Ok(None) => true,
+        Ok(None) => begun,
         Err(_) => {
             server.stop(rt);
-            false
+            None
         }
     }
 }
 
-/// Waits for an item, which the worker looks for, takes it, and copies it; where another one stands in a line, one more worker is
-/// woken. None where the loop ends.
+/// Waits for an item, takes it, and copies it; where another one stands in a line, one more worker is woken. None where the
+/// loop ends.
 fn receive<S: UnderLock, R: Wait>(
     rt: &R,
     server: &ServerOf<S>,
     seat: &mut S::Seat,
     worker: Worker,
     spinner: &mut Spinner,
+    begun: Begun,
 ) -> Option<(Item, HeldCopy)>
     ensures { Works S.adds S.keeps worker.0 seat.old seat.new }
 {
-    let mut guard = server.lock_for(rt, spinner, Awaited::Item);
+    let mut guard = server.lock_for(rt, spinner, Awaited::Item, begun);
     let manager = guard.under.next_manager()?;
     let received = guard.receive(seat, worker, manager);
     let woken = guard.woken();
@@ -109,8 +111,7 @@ fn receive<S: UnderLock, R: Wait>(
     }
 }
 
-/// Performs what the worker holds, and wakes who was answered by that; the worker looks for an item from then on. False where the
-/// loop ends.
+/// Performs what the worker holds, wakes who was answered by that, and begins to wait for an item. None where the loop ends.
 fn perform<S: UnderLock, C: Clock, R: Wait>(
     rt: &R,
     server: &ServerOf<S>,
@@ -118,7 +119,7 @@ fn perform<S: UnderLock, C: Clock, R: Wait>(
     worker: Worker,
     work: Work,
     clock: &C,
-) -> bool
+) -> Option<Begun>
     ensures { Works S.adds S.keeps worker.0 seat.old seat.new }
 {
     let moment = clock.moment();
@@ -126,20 +127,19 @@ fn perform<S: UnderLock, C: Clock, R: Wait>(
     let user = guard.user_of_work(worker);
     let done = guard.under.perform(seat, worker, &work, moment);
     let released = user.map(|user| guard.released(user));
-    if matches!(done, Ok(Outcome::Handled)) {
-        guard.start_looking();
-    }
+    let is_done = matches!(done, Ok(Outcome::Handled));
+    let begun = server.look(&mut guard, is_done);
     drop(guard);
     if let Some(released) = released {
         server.wake_clients(released);
     }
     match done {
-        Ok(Outcome::Handled) => true,
+        Ok(Outcome::Handled) => begun,
         Err(PerformFault::NoMemory) => {
             server.stop(rt);
-            false
+            None
         }
-        _ => false,
+        _ => None,
     }
 }
 
