@@ -7,7 +7,7 @@ ghost use Rattle.qx_pool.specs.Ends.{CallAdds, PulseAdds};
 ghost use Rattle.qx_pool.specs.inner.Ends.{end_of, pulse_end_of};
 
 use crate::server::ServerOf;
-use crate::spinner::Spinner;
+use crate::spinner::{Begun, Spinner};
 use crate::waits::{Awaited, Coming};
 use qx_types::{Errno, MessageBytes, Outcome, Request, Step, Thread};
 use qx_world::{UnderLock, Unstored};
@@ -90,7 +90,7 @@ impl<S: UnderLock> ClientOf<S> {
         let called = guard
             .under
             .take(&mut self.seat, Step::Call { thread, request });
-        let woken = guard.woken();
+        let woken = server.woken(&guard);
         let answer = Awaited::OfThread(Coming::Answer, thread);
         let begun = server.begin(&mut guard, answer);
         drop(guard);
@@ -118,8 +118,11 @@ impl<S: UnderLock> ClientOf<S> {
     {
         let proc = self.thread.proc;
         let pulse = Awaited::OfThread(Coming::Pulse, Thread { proc, tid: 1 });
-        let begun = server.begin(&mut server.lock(rt), pulse);
-        let mut guard = server.lock_for(rt, &mut self.spinner, pulse, begun);
+        let mut guard = server.lock(rt);
+        if let begun @ Begun::Seen(_) = server.begin(&mut guard, pulse) {
+            drop(guard);
+            guard = server.lock_for(rt, &mut self.spinner, pulse, begun);
+        }
         if guard.is_stopped() || guard.world().lacks_pulse(proc) {
             return PulseEnd::Stopped;
         }
@@ -146,7 +149,7 @@ impl<S: UnderLock> ClientOf<S> {
         let mut guard = server.lock(rt);
         let result = guard.under.take(&mut self.seat, step);
         let released = user.map(|user| guard.released(user));
-        let woken = guard.woken();
+        let woken = server.woken(&guard);
         drop(guard);
         if let Some(released) = released {
             server.wake_clients(released);

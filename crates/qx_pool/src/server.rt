@@ -4,7 +4,7 @@ ghost use Rattle.std.specs.Prelude.{◌≡◌, IfOk, vec_len};
 ghost use Rattle.qx_pool.specs.declared.waits.TheConstants.{THREADS};
 
 use crate::locked::Locked;
-use crate::spinner::{Begun, Spinner, TRIES, pause};
+use crate::spinner::{Begun, LOCK_TRIES, Spinner, pause};
 use crate::waits::{Awaited, THREADS, ThreadSet, Woken, place_of};
 use qx_world::UnderLock;
 use std::alloc::{AllocError, Global};
@@ -80,7 +80,7 @@ impl<S: UnderLock> ServerOf<S> {
 
     /// Takes the lock. Where another thread has it, it is asked for anew for a while before the thread sleeps.
     pub(crate) fn lock(&self, rt: &impl Wait) -> MutexGuard<'_, Locked<S>> {
-        for _ in 0..TRIES {
+        for _ in 0..LOCK_TRIES {
             if let Some(guard) = self.locked.try_lock() {
                 return guard;
             }
@@ -89,8 +89,11 @@ impl<S: UnderLock> ServerOf<S> {
         self.locked.lock(rt)
     }
 
-    /// A thread begins to wait for this, under the lock.
+    /// A thread begins to wait for this, under the lock. A worker counts as one that looks for an item until it has the lock again.
     pub(crate) fn begin(&self, locked: &mut Locked<S>, awaited: Awaited) -> Begun {
+        if let Awaited::Item = awaited {
+            locked.start_looking();
+        }
         if locked.waits_for(awaited) {
             Begun::Seen(self.watched(awaited).notifications())
         } else {
@@ -98,18 +101,17 @@ impl<S: UnderLock> ServerOf<S> {
         }
     }
 
-    /// A worker that is free begins to wait for an item, under the lock, and counts as one that looks for it until it has the lock
-    /// again. None where it isn't free.
+    /// A worker begins to wait for an item, under the lock, if it is free.
     pub(crate) fn look(&self, locked: &mut Locked<S>, is_free: bool) -> Option<Begun> {
-        if !is_free {
-            return None;
+        if is_free {
+            Some(self.begin(locked, Awaited::Item))
+        } else {
+            None
         }
-        locked.start_looking();
-        Some(self.begin(locked, Awaited::Item))
     }
 
     /// Takes the lock once what is awaited came, or the server was stopped. A thread that began to wait spins until then, and sleeps
-    /// then.
+    /// where that was in vain. One that comes too late for what was there, or for what it was told of, spins once more.
     pub(crate) fn lock_for<R: Wait>(
         &self,
         rt: &R,
@@ -117,30 +119,56 @@ impl<S: UnderLock> ServerOf<S> {
         awaited: Awaited,
         begun: Begun,
     ) -> MutexGuard<'_, Locked<S>> {
-        let has_spun = match begun {
-            Begun::There => false,
+        let (mut guard, is_late) = self.spin(rt, spinner, awaited, begun);
+        if is_late {
+            let begun = self.begin(&mut guard, awaited);
+            drop(guard);
+            (guard, _) = self.spin(rt, spinner, awaited, begun);
+        }
+        let bell = self.bell(awaited);
+        bell.wait_while(rt, guard, |locked| locked.waits_for(awaited))
+    }
+
+    /// Spins, and takes the lock. Whether the thread came too late: what it waits for was there, or was told of, and is there no
+    /// longer.
+    fn spin<R: Wait>(
+        &self,
+        rt: &R,
+        spinner: &mut Spinner,
+        awaited: Awaited,
+        begun: Begun,
+    ) -> (MutexGuard<'_, Locked<S>>, bool) {
+        let told = match begun {
+            Begun::There => true,
             Begun::Seen(seen) => spinner.spin(self.watched(awaited), seen),
         };
         let mut guard = self.lock(rt);
         if let Awaited::Item = awaited {
             guard.stop_looking();
         }
-        if guard.waits_for(awaited) {
-            let bell = self.bell(awaited);
-            return bell.wait_while(rt, guard, |locked| locked.waits_for(awaited));
+        let waits = guard.waits_for(awaited);
+        if let Begun::Seen(_) = begun {
+            if told && !waits {
+                spinner.paid();
+            }
         }
-        if has_spun {
-            spinner.paid();
-        }
-        guard
+        (guard, told && waits)
     }
 
-    /// Wakes this worker, where there is one.
+    /// Which worker is woken as the lock is let go. One that looks for an item is told so under the lock: told later it might have
+    /// begun to look for the next one.
+    pub(crate) fn woken(&self, locked: &Locked<S>) -> Woken {
+        let woken = locked.woken();
+        if let Woken::Looking = woken {
+            self.looks.notify_one();
+        }
+        woken
+    }
+
+    /// Wakes a worker that sleeps, where one is to be woken.
     pub(crate) fn wake_worker(&self, woken: Woken) {
-        match woken {
-            Woken::Nobody => {}
-            Woken::Looking => self.looks.notify_one(),
-            Woken::Sleeping => self.items.notify_one(),
+        if let Woken::Sleeping = woken {
+            self.items.notify_one();
         }
     }
 

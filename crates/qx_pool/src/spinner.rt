@@ -3,22 +3,26 @@
 use std::hint::spin_loop;
 use std::sync::Condvar;
 
-/// How often a thread looks whether it was notified: some 15 microseconds, longer than a thread takes to be woken.
+/// How often a thread looks whether it was notified: some 15 microseconds.
 const LOOKS: u32 = 2_000;
 
 /// After so many spins in vain, one after another, a thread sleeps at once.
 const VAIN: u32 = 4;
 
-/// From then on it spins once in so many waits, and looks so often then: longer than it takes to wake a thread that sleeps, so
-/// that two threads that both sleep find back to spinning.
+/// From then on it spins once in so many waits.
 const TRIAL: u32 = 64;
 
-const LONG: u32 = 16_000;
+/// How often it looks then: longer than it takes to wake another thread, so that two threads that both came to sleep find back to
+/// spinning. It goes on so while it takes so long.
+const TRIAL_LOOKS: u32 = 16_000;
+
+/// So often a thread asks for a lock before it sleeps, some 8 microseconds long.
+pub(crate) const LOCK_TRIES: u32 = 64;
 
 /// How a wait began, as was seen under the lock.
-#[derive(Clone, Copy, Debug)]
+#[derive(Clone, Copy)]
 pub(crate) enum Begun {
-    /// What is awaited was there.
+    /// What is awaited was there, or the server stopped.
     There,
     /// It wasn't, after so many notifications.
     Seen(u64),
@@ -31,42 +35,52 @@ pub(crate) enum Begun {
 pub(crate) struct Spinner {
     /// How many waits there were since a spin paid.
     vain: u32,
+    /// How often the last spin looked.
+    looked: u32,
+    /// How often the next one looks at most.
+    looks: u32,
 }
 
 impl Spinner {
     /// Spins at its first wait.
     pub(crate) fn new() -> Spinner {
-        Spinner { vain: 0 }
+        Spinner {
+            vain: 0,
+            looked: 0,
+            looks: LOOKS,
+        }
     }
 
-    /// Waits for more notifications than were seen, for a while, or not at all where that hardly pays; and whether it did. What came
-    /// meanwhile is known under the lock alone.
-    pub(crate) fn spin(&mut self, bell: &Condvar, seen: u64) -> bool {
+    /// Waits for more notifications than were seen, for a while, or not at all where that hardly pays. Whether there are more.
+    pub(crate) fn spin(&mut self, watched: &Condvar, seen: u64) -> bool {
         let looks = if self.vain < VAIN {
-            LOOKS
+            self.looks
         } else if self.vain.is_multiple_of(TRIAL) {
-            LONG
+            TRIAL_LOOKS
         } else {
             0
         };
         self.vain = self.vain.wrapping_add(1);
-        for _ in 0..looks {
-            if bell.notifications() != seen {
-                break;
+        for look in 0..looks {
+            if watched.notifications() != seen {
+                self.looked = look;
+                return true;
             }
             spin_loop();
         }
-        looks > 0
+        false
     }
 
     /// What the thread waited for is there after its spin.
     pub(crate) fn paid(&mut self) {
         self.vain = 0;
+        self.looks = if self.looked < LOOKS {
+            LOOKS
+        } else {
+            TRIAL_LOOKS
+        };
     }
 }
-
-/// So often a thread asks for a lock before it sleeps, some 8 microseconds long.
-pub(crate) const TRIES: u32 = 64;
 
 /// Waits for some tenth of a microsecond.
 pub(crate) fn pause() {

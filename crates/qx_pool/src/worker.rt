@@ -99,7 +99,7 @@ fn receive<S: UnderLock, R: Wait>(
     let mut guard = server.lock_for(rt, spinner, Awaited::Item, begun);
     let manager = guard.under.next_manager()?;
     let received = guard.receive(seat, worker, manager);
-    let woken = guard.woken();
+    let woken = server.woken(&guard);
     drop(guard);
     server.wake_worker(woken);
     match received {
