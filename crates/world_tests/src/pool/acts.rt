@@ -53,7 +53,10 @@ pub(crate) fn read(
         Some(("work", number)) => Act::Work(Worker(number.parse().expect(rt, "a number"))),
         Some(("until", line)) => Act::Until(step(rt, alloc, users, line)?),
         _ => match step(rt, alloc, users, line)? {
-            Step::Call { thread, ref request } => Act::Call(thread, request.clone()?),
+            Step::Call {
+                thread,
+                ref request,
+            } => Act::Call(thread, request.clone()?),
             step => Act::Take(step),
         },
     })
