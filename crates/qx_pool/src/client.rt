@@ -7,7 +7,7 @@ ghost use Rattle.qx_pool.specs.Ends.{CallAdds, PulseAdds};
 ghost use Rattle.qx_pool.specs.inner.Ends.{end_of, pulse_end_of};
 
 use crate::server::ServerOf;
-use crate::spinner::{Begun, Spinner};
+use crate::spinner::Spinner;
 use crate::waits::{Awaited, Coming};
 use qx_types::{Errno, MessageBytes, Outcome, Request, Step, Thread};
 use qx_world::{UnderLock, Unstored};
@@ -117,12 +117,8 @@ impl<S: UnderLock> ClientOf<S> {
         ensures thread { self.new.thread ≡ self.old.thread }
     {
         let proc = self.thread.proc;
-        let pulse = Awaited::OfThread(Coming::Pulse, Thread { proc, tid: 1 });
-        let mut guard = server.lock(rt);
-        if let begun @ Begun::Seen(_) = server.begin(&mut guard, pulse) {
-            drop(guard);
-            guard = server.lock_for(rt, &mut self.spinner, pulse, begun);
-        }
+        let first = Thread { proc, tid: 1 };
+        let mut guard = server.lock_for_thread(rt, &mut self.spinner, Coming::Pulse, first);
         if guard.is_stopped() || guard.world().lacks_pulse(proc) {
             return PulseEnd::Stopped;
         }

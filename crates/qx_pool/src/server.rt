@@ -5,7 +5,8 @@ ghost use Rattle.qx_pool.specs.declared.waits.TheConstants.{THREADS};
 
 use crate::locked::Locked;
 use crate::spinner::{Begun, LOCK_TRIES, Spinner, pause};
-use crate::waits::{Awaited, THREADS, ThreadSet, Woken, place_of};
+use crate::waits::{Awaited, Coming, THREADS, ThreadSet, Woken, place_of};
+use qx_types::Thread;
 use qx_world::UnderLock;
 use std::alloc::{AllocError, Global};
 use std::marker::Model;
@@ -127,6 +128,23 @@ impl<S: UnderLock> ServerOf<S> {
         }
         let bell = self.bell(awaited);
         bell.wait_while(rt, guard, |locked| locked.waits_for(awaited))
+    }
+
+    /// A client's thread begins to wait: takes the lock once that came to it, or the server was stopped.
+    pub(crate) fn lock_for_thread<R: Wait>(
+        &self,
+        rt: &R,
+        spinner: &mut Spinner,
+        coming: Coming,
+        thread: Thread,
+    ) -> MutexGuard<'_, Locked<S>> {
+        let awaited = Awaited::OfThread(coming, thread);
+        let mut guard = self.lock(rt);
+        if let begun @ Begun::Seen(_) = self.begin(&mut guard, awaited) {
+            drop(guard);
+            guard = self.lock_for(rt, spinner, awaited, begun);
+        }
+        guard
     }
 
     /// Spins, and takes the lock. Whether the thread came too late: what it waits for was there, or was told of, and is there no
