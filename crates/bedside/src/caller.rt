@@ -3,10 +3,10 @@
 ghost use Rattle.std.specs.Prelude.{◌≡◌, true};
 ghost use Rattle.qx_types.specs.Step.{is_client_step};
 
-use crate::commands::{bytes_of, pump_of};
+use crate::commands::bytes_of;
 use crate::plan::Plan;
 use crate::ward::{Ward, thread};
-use pump::{Command, Pump};
+use pump::{Command, Pump, pump_of};
 use qx_pool::{CallEnd, ClientOf, PulseEnd, UnderLock};
 use qx_types::{
     Bytes, Coid, Conds, MessageBytes, NotifyAction, OFlags, Outcome, Request, Step, Thread, User,
@@ -146,8 +146,10 @@ impl<'s, S: UnderLock> Caller<'s, S> {
             coid: pump,
             count: 5,
         };
-        let (_, bytes) = self.ask(rt, request)?;
-        pump_of(bytes.as_slice()).ok_or(Fault::Unexpected)
+        match self.ask(rt, request)? {
+            (5, bytes) => Ok(pump_of(bytes.as_slice())),
+            _ => Err(Fault::Unexpected),
+        }
     }
 
     /// Asks for a pulse that comes with an alarm, where none stands.

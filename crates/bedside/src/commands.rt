@@ -1,10 +1,10 @@
-//! What is written to a pump and read from it, as bytes.
+//! What is written to a pump, as bytes.
 
-ghost use Rattle.std.specs.Prelude.{◌≡◌, ◌≢◌, ◌<◌, ◌==◌, IfOk, IfSome, Some, is_some, length};
-ghost use Rattle.pump.specs.Pump.{bytes_of, command_of, command_with, doing_of, plain_command, pump_of};
+ghost use Rattle.std.specs.Prelude.{◌≡◌, ◌≢◌, ◌<◌, IfOk, Some};
+ghost use Rattle.pump.specs.Pump.{command_of, command_with, plain_command};
 ghost use Rattle.pump.specs.declared.Command.TheVariants as variant;
 
-use pump::{Command, Doing, Pump};
+use pump::Command;
 use qx_types::Bytes;
 use std::alloc::{AllocError, Global};
 
@@ -28,30 +28,4 @@ fn with_number(alloc: Global, code: u8, number: u16) -> Result<Bytes, AllocError
 {
     let [low, high] = number.to_le_bytes();
     Bytes::from_slice(alloc, &[code, low, high])
-}
-
-/// The pump that has these bytes; none has another number of them.
-pub fn pump_of(bytes: &[u8]) -> Option<Pump>
-    ensures told { IfSome result (λ pump. pump ≡ pump_of bytes.now) }
-    ensures some { is_some result ≡ (length bytes.now == 5) }
-{
-    match bytes {
-        [a, b, c, d, doing] => Some(Pump {
-            rate: u16::from_le_bytes([*a, *b]),
-            left: u16::from_le_bytes([*c, *d]),
-            doing: doing_of(*doing),
-        }),
-        _ => None,
-    }
-}
-
-/// What a pump does, by its byte.
-fn doing_of(byte: u8) -> Doing
-    ensures { result ≡ doing_of byte }
-{
-    match byte {
-        1 => Doing::Running,
-        2 => Doing::Alarm,
-        _ => Doing::Stopped,
-    }
 }

@@ -15,7 +15,7 @@
 //! - `runs.rt`: a run, over a pool and over a service
 //! - `crew.rt`: the threads, from their start to their end
 //! - `caller.rt`: a thread of a bed's process, and what it asks of a pump
-//! - `commands.rt`: what is written to a pump and read from it, as bytes
+//! - `commands.rt`: what is written to a pump, as bytes
 //! - `driver.rt`, `nurse.rt`, `flood.rt`: what the threads of beds do
 //! - `figures.rt`: what is measured, and printed second by second
 //! - `received.rt`: what a bed received, in the run and in its erased run

@@ -9,7 +9,7 @@ ghost use Rattle.qx_devices.specs.declared.TheConstants.Device.{COUNT};
 
 use qx_device::{Given, State, Told};
 
-/// A device: its definitions and its code are those of the two crates that it is listed with.
+/// A device: its definitions and its code are those of the crate of its name.
 #[derive(Clone, Copy, Debug, PartialEq, Eq)]
 pub enum Device {
     Latch,
@@ -63,9 +63,9 @@ impl Device {
         ensures left { record { told = result; bytes = given.new; state = state.new } ≡ left_by state.old (read_verdict self count state.old) }
     {
         match self {
-            Device::Latch => latch_driver::read(count, state, given),
-            Device::Mailbox => mailbox_driver::read(count, state, given),
-            Device::Pump => pump_driver::read(count, state, given),
+            Device::Latch => latch::read(count, state, given),
+            Device::Mailbox => mailbox::read(count, state, given),
+            Device::Pump => pump::read(count, state, given),
         }
     }
 
@@ -76,9 +76,9 @@ impl Device {
         ensures left { record { told = result; bytes = []; state = state.new } ≡ left_by state.old (write_verdict self bytes.now state.old) }
     {
         match self {
-            Device::Latch => latch_driver::write(bytes, state),
-            Device::Mailbox => mailbox_driver::write(bytes, state),
-            Device::Pump => pump_driver::write(bytes, state),
+            Device::Latch => latch::write(bytes, state),
+            Device::Mailbox => mailbox::write(bytes, state),
+            Device::Pump => pump::write(bytes, state),
         }
     }
 
@@ -88,9 +88,9 @@ impl Device {
         ensures { result ≡ has_input self state.now }
     {
         match self {
-            Device::Latch => latch_driver::may_read(state),
-            Device::Mailbox => mailbox_driver::may_read(state),
-            Device::Pump => pump_driver::may_read(state),
+            Device::Latch => latch::may_read(state),
+            Device::Mailbox => mailbox::may_read(state),
+            Device::Pump => pump::may_read(state),
         }
     }
 
@@ -100,9 +100,9 @@ impl Device {
         ensures { result ≡ has_output self state.now }
     {
         match self {
-            Device::Latch => latch_driver::may_write(state),
-            Device::Mailbox => mailbox_driver::may_write(state),
-            Device::Pump => pump_driver::may_write(state),
+            Device::Latch => latch::may_write(state),
+            Device::Mailbox => mailbox::may_write(state),
+            Device::Pump => pump::may_write(state),
         }
     }
 }
