@@ -7,13 +7,14 @@ use crate::flood::{FLOODERS, flood};
 use crate::nurse::watch;
 use crate::ward::{Bed, DRIVER, NURSE, Ward};
 use anyhow::Context;
+use named_threads::{joined, named};
 use qx_pool::{UnderLock, worker_loop};
 use qx_types::Worker;
-use std::alloc::{AllocError, Global};
+use std::alloc::Global;
 use std::sync::Wait;
 use std::sync::atomic::Ordering;
 use std::thread;
-use std::thread::{Builder, JoinHandle, Scope, Threads};
+use std::thread::{JoinHandle, Scope, Threads};
 use std::time::Clock;
 
 /// A thread of a bed at its end: its seat, how it went, and, of a nurse, how many alarms it silenced.
@@ -90,23 +91,23 @@ where
             let (server, serving) = (&ward.server, &ward.serving);
             let seat = seats.next().context("too few seats")?;
             let work = move || worker_loop(rt, server, seat, Worker(number), serving, serving);
-            let worker = named(alloc, "worker", number)?.spawn_scoped(scope, work)?;
+            let worker = named(alloc, "worker", number.into())?.spawn_scoped(scope, work)?;
             self.workers.push(worker)?;
         }
         for bed in &ward.beds {
             let seat = seats.next().context("too few seats")?;
             let drive = move || drive_bed(rt, alloc, ward, bed, seat);
-            let driver = named(alloc, "driver", bed.user.0)?.spawn_scoped(scope, drive)?;
+            let driver = named(alloc, "driver", bed.user.0.into())?.spawn_scoped(scope, drive)?;
             self.callers.push(driver)?;
             let seat = seats.next().context("too few seats")?;
             let watch = move || watch_bed(rt, alloc, ward, bed, seat);
-            let nurse = named(alloc, "nurse", bed.user.0)?.spawn_scoped(scope, watch)?;
+            let nurse = named(alloc, "nurse", bed.user.0.into())?.spawn_scoped(scope, watch)?;
             self.callers.push(nurse)?;
         }
         for number in 1..=FLOODERS {
             let seat = seats.next().context("too few seats")?;
             let flood = move || flood_ward(rt, alloc, ward, seat);
-            let flooder = named(alloc, "flood", number)?.spawn_scoped(scope, flood)?;
+            let flooder = named(alloc, "flood", number.into())?.spawn_scoped(scope, flood)?;
             self.callers.push(flooder)?;
         }
         Ok(())
@@ -171,22 +172,4 @@ impl<S: UnderLock> Left<S> {
             silenced,
         }
     }
-}
-
-/// How a thread is started that tools show under this name.
-fn named(alloc: Global, kind: &str, number: u8) -> Result<Builder, AllocError> {
-    Ok(Builder::new().name(format!(in alloc; "{kind} {number}")?))
-}
-
-/// Waits for threads, and gives what they return.
-fn joined<T: Send + Drop, R: Threads>(
-    rt: &R,
-    alloc: Global,
-    threads: Vec<JoinHandle<T>>,
-) -> Result<Vec<T>, AllocError> {
-    let mut results = Vec::new(alloc);
-    for thread in threads {
-        results.push(thread.join(rt))?;
-    }
-    Ok(results)
 }

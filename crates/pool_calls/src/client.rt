@@ -118,7 +118,10 @@ pub fn play<S: UnderLock, R: Wait + Clock>(
 
 /// The nanoseconds since then; 0 where the clock fails.
 fn nanos_since(rt: &impl Clock, start: Instant) -> u128 {
-    start.elapsed(rt).map_or(0, |time| time.as_nanos())
+    match start.elapsed(rt) {
+        Ok(time) => time.as_nanos(),
+        Err(_) => 0,
+    }
 }
 
 impl<S: UnderLock> Player<'_, S> {

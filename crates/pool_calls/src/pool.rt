@@ -7,19 +7,20 @@ use crate::client::{Part, Played, drive, play};
 use crate::serving::{Counting, Yielding};
 use anyhow::{Context, bail, ensure};
 use latencies::Latencies;
+use named_threads::{joined, named};
 use qx_pool::{
     Event, FinishFault, OfRun, Opened, Server, ServerOf, Service, TiedService, UnderLock, finish,
     worker_loop,
 };
 use qx_types::{Config, Worker};
 use qx_world::{Traced, World};
-use std::alloc::{AllocError, Global};
+use std::alloc::Global;
 use std::marker::Brand;
 use std::sync::Wait;
 use std::sync::atomic::{AtomicU64, Ordering};
 use std::sync::ledger::{Blank, Ledger};
 use std::thread;
-use std::thread::{Builder, JoinHandle, Scope, Threads};
+use std::thread::{JoinHandle, Scope, Threads};
 use std::time::Clock;
 
 /// What a run came to, how many calls were made, the nanoseconds that the slowest client took for its own, and how long calls
@@ -325,22 +326,4 @@ where
         }
         Ok(())
     }
-}
-
-/// How a thread is started that tools show under this name.
-fn named(alloc: Global, kind: &str, number: u16) -> Result<Builder, AllocError> {
-    Ok(Builder::new().name(format!(in alloc; "{kind} {number}")?))
-}
-
-/// Waits for threads, and gives what they return.
-fn joined<T: Send + Drop, R: Threads>(
-    rt: &R,
-    alloc: Global,
-    threads: Vec<JoinHandle<T>>,
-) -> Result<Vec<T>, AllocError> {
-    let mut results = Vec::new(alloc);
-    for thread in threads {
-        results.push(thread.join(rt))?;
-    }
-    Ok(results)
 }

@@ -90,16 +90,16 @@ impl<S: UnderLock> ClientOf<S> {
         let called = guard
             .under
             .take(&mut self.seat, Step::Call { thread, request });
-        let woken = server.woken(&guard);
-        let answer = Awaited::OfThread(Coming::Answer, thread);
-        let begun = server.begin(&mut guard, answer);
-        drop(guard);
         let Ok(outcome) = called else {
             return CallEnd::NoMemory;
         };
         if !is_sent(&outcome) {
             return end_of(outcome);
         }
+        let woken = server.woken(&guard);
+        let answer = Awaited::OfThread(Coming::Answer, thread);
+        let begun = server.begin(&mut guard, answer);
+        drop(guard);
         server.wake_worker(woken);
         let mut guard = server.lock_for(rt, &mut self.spinner, answer, begun);
         if guard.world().blocked(thread) {

@@ -1,8 +1,8 @@
 //! A server's lock: what lies under it, and who waits for what.
 
-ghost use Rattle.std.specs.Prelude.{◌≡◌, ◌+◌, ◌-◌, ◌^◌, ◌==◌, ◌&&◌, true, false, not, IfOk, is_some, min, nat_le, option_map};
+ghost use Rattle.std.specs.Prelude.{◌≡◌, ◌==◌, ◌&&◌, true, false, not, IfOk, is_some, nat_le, option_map};
 ghost use Rattle.qx_types.specs.declared.names.Thread.{Thread};
-ghost use Rattle.qx_pool.specs.Awaits.{is_to_come, is_to_come_of, woken};
+ghost use Rattle.qx_pool.specs.Awaits.{is_to_come, is_to_come_of, looking_after, woken};
 ghost use Rattle.qx_types.specs.declared.step.Step.{Step};
 ghost use Rattle.qx_machine.specs.Machine as machine;
 ghost use Rattle.qx_world.specs.Seats.{Works};
@@ -11,7 +11,7 @@ ghost use Rattle.qx_pool.specs.Waits.{IsPossible, is_awaited, is_in};
 ghost use Rattle.qx_pool.specs.declared.waits.Awaited.{Awaited};
 ghost use Rattle.qx_pool.specs.declared.waits.Coming.{Coming};
 
-use crate::waits::{Awaited, Coming, ThreadSet, Waits, Woken};
+use crate::waits::{Awaited, Coming, ThreadSet, Waiting, Waits, Woken};
 use qx_types::{Item, Manager, MessageBytes, NoMemory, Outcome, Step, User, Worker};
 use qx_world::{UnderLock, WorkRef, World};
 use std::alloc::AllocError;
@@ -97,17 +97,24 @@ impl<S: UnderLock> Locked<S> {
     }
 
     /// Whether what is awaited has yet to come, unless the server was stopped. If it is of a thread, it is marked that a client
-    /// waits for it.
-    pub(crate) fn waits_for(&mut self, awaited: Awaited) -> bool
+    /// waits for it. A worker counts as one that looks for an item from where it begins to wait until it has the lock again.
+    pub(crate) fn waits_for(&mut self, awaited: Awaited, waiting: Waiting) -> bool
         ensures told { result ≡ (not self.old.is_stopped && is_to_come (S.world_of self.old.under) awaited) }
+        ensures looking { self.new.looking ≡ looking_after waiting awaited self.old.looking }
         ensures answer { (thread : Thread) → awaited ≡ Awaited.OfThread Coming.Answer thread → result ≡ true → is_awaited self.new.answers thread ≡ true }
         ensures pulse { (thread : Thread) → awaited ≡ Awaited.OfThread Coming.Pulse thread → result ≡ true → is_awaited self.new.pulses thread ≡ true }
         ensures other_answers { (thread : Thread) → is_awaited self.old.answers thread ≡ true → is_awaited self.new.answers thread ≡ true }
         ensures other_pulses { (thread : Thread) → is_awaited self.old.pulses thread ≡ true → is_awaited self.new.pulses thread ≡ true }
         ensures under { self.new.under ≡ self.old.under }
-        ensures looking { self.new.looking ≡ self.old.looking }
         ensures stopped { self.new.is_stopped ≡ self.old.is_stopped }
     {
+        if let Awaited::Item = awaited {
+            match waiting {
+                Waiting::Begins => self.looking = self.looking.saturating_add(1),
+                Waiting::Spun => self.looking = self.looking.saturating_sub(1),
+                Waiting::Slept => {}
+            }
+        }
         if self.is_stopped || !self.is_to_come(awaited) {
             return false;
         }
@@ -128,28 +135,6 @@ impl<S: UnderLock> Locked<S> {
             Awaited::OfThread(Coming::Answer, thread) => self.world().blocked(thread),
             Awaited::OfThread(Coming::Pulse, thread) => self.world().lacks_pulse(thread.proc),
         }
-    }
-
-    /// One worker more looks for an item, without the lock.
-    pub(crate) fn start_looking(&mut self)
-        ensures looking { self.new.looking ≡ min (self.old.looking + 1) (2 ^ 32 - 1) }
-        ensures answers { self.new.answers ≡ self.old.answers }
-        ensures pulses { self.new.pulses ≡ self.old.pulses }
-        ensures under { self.new.under ≡ self.old.under }
-        ensures stopped { self.new.is_stopped ≡ self.old.is_stopped }
-    {
-        self.looking = self.looking.saturating_add(1);
-    }
-
-    /// One that looked for an item has the lock again.
-    pub(crate) fn stop_looking(&mut self)
-        ensures looking { self.new.looking ≡ self.old.looking - 1 }
-        ensures answers { self.new.answers ≡ self.old.answers }
-        ensures pulses { self.new.pulses ≡ self.old.pulses }
-        ensures under { self.new.under ≡ self.old.under }
-        ensures stopped { self.new.is_stopped ≡ self.old.is_stopped }
-    {
-        self.looking = self.looking.saturating_sub(1);
     }
 
     /// Which worker is woken as the lock is let go: one if an item stands in a line, and one that sleeps only if none looks.

@@ -5,7 +5,7 @@ ghost use Rattle.qx_pool.specs.declared.waits.TheConstants.{THREADS};
 
 use crate::locked::Locked;
 use crate::spinner::{Begun, LOCK_TRIES, Spinner, pause};
-use crate::waits::{Awaited, Coming, THREADS, ThreadSet, Woken, place_of};
+use crate::waits::{Awaited, Coming, THREADS, ThreadSet, Waiting, Woken, place_of};
 use qx_types::Thread;
 use qx_world::UnderLock;
 use std::alloc::{AllocError, Global};
@@ -90,12 +90,9 @@ impl<S: UnderLock> ServerOf<S> {
         self.locked.lock(rt)
     }
 
-    /// A thread begins to wait for this, under the lock. A worker counts as one that looks for an item until it has the lock again.
+    /// A thread begins to wait for this, under the lock.
     pub(crate) fn begin(&self, locked: &mut Locked<S>, awaited: Awaited) -> Begun {
-        if let Awaited::Item = awaited {
-            locked.start_looking();
-        }
-        if locked.waits_for(awaited) {
+        if locked.waits_for(awaited, Waiting::Begins) {
             Begun::Seen(self.watched(awaited).notifications())
         } else {
             Begun::There
@@ -127,7 +124,9 @@ impl<S: UnderLock> ServerOf<S> {
             (guard, _) = self.spin(rt, spinner, awaited, begun);
         }
         let bell = self.bell(awaited);
-        bell.wait_while(rt, guard, |locked| locked.waits_for(awaited))
+        bell.wait_while(rt, guard, |locked| {
+            locked.waits_for(awaited, Waiting::Slept)
+        })
     }
 
     /// A client's thread begins to wait: takes the lock once that came to it, or the server was stopped.
@@ -161,10 +160,7 @@ impl<S: UnderLock> ServerOf<S> {
             Begun::Seen(seen) => spinner.spin(self.watched(awaited), seen),
         };
         let mut guard = self.lock(rt);
-        if let Awaited::Item = awaited {
-            guard.stop_looking();
-        }
-        let waits = guard.waits_for(awaited);
+        let waits = guard.waits_for(awaited, Waiting::Spun);
         if let Begun::Seen(_) = begun {
             if told && !waits {
                 spinner.paid();

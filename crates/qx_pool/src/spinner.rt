@@ -3,8 +3,12 @@
 use std::hint::spin_loop;
 use std::sync::Condvar;
 
-/// How often a thread looks whether it was notified: some 15 microseconds.
+/// How often a thread looks at least whether it was notified: some 15 microseconds.
 const LOOKS: u32 = 2_000;
+
+/// And so many times as often as it had to when a spin last paid, so that a wait which takes a little longer than that one is not
+/// in vain.
+const MARGIN: u32 = 4;
 
 /// After so many spins in vain, one after another, a thread sleeps at once.
 const VAIN: u32 = 4;
@@ -12,8 +16,8 @@ const VAIN: u32 = 4;
 /// From then on it spins once in so many waits.
 const TRIAL: u32 = 64;
 
-/// How often it looks then: longer than it takes to wake another thread, so that two threads that both came to sleep find back to
-/// spinning. It goes on so while it takes so long.
+/// How often it looks then, and at most: longer than it takes to wake another thread, so that two threads that both came to sleep
+/// find back to spinning.
 const TRIAL_LOOKS: u32 = 16_000;
 
 /// So often a thread asks for a lock before it sleeps, some 8 microseconds long.
@@ -74,11 +78,7 @@ impl Spinner {
     /// What the thread waited for is there after its spin.
     pub(crate) fn paid(&mut self) {
         self.vain = 0;
-        self.looks = if self.looked < LOOKS {
-            LOOKS
-        } else {
-            TRIAL_LOOKS
-        };
+        self.looks = self.looked.saturating_mul(MARGIN).clamp(LOOKS, TRIAL_LOOKS);
     }
 }
 

@@ -31,6 +31,17 @@ pub(crate) enum Coming {
     Pulse,
 }
 
+/// How far a thread has come that waits, whenever it has the lock.
+#[derive(Clone, Copy, Debug, PartialEq, Eq)]
+pub(crate) enum Waiting {
+    /// It begins.
+    Begins,
+    /// It has spun, and is to sleep if what it waits for has still to come.
+    Spun,
+    /// It has slept.
+    Slept,
+}
+
 /// Which worker is woken as the lock is let go.
 #[derive(Clone, Copy, Debug, PartialEq, Eq)]
 pub(crate) enum Woken {
