@@ -64,10 +64,10 @@ fn perform_what_is_held(
         is_stale(traced, &message(MessageBytes::inline(alloc, b"")))
             && is_stale(traced, &Work::Pulse)
     );
-    assert_eq!(rt; traced.entries().len(), 3);
+    assert!(rt; traced.entries().len() == 3);
     assert!(rt; is_performed(traced, &held));
     assert!(rt; traced.world().answered(ann));
-    assert_eq!(rt; traced.config().user_count(), 2);
+    assert!(rt; traced.config().user_count() == 2);
     Ok(())
 }
 
@@ -132,7 +132,7 @@ fn opens_third(outcome: &Outcome) -> bool {
 
 /// Bob's call is served and answered, and nothing is held afterwards.
 fn serve_alone(rt: &impl Abort, world: &mut World) -> Result<(), NoMemory> {
-    assert_eq!(rt; world.waiting(Manager::Ram), 1);
+    assert!(rt; world.waiting(Manager::Ram) == 1);
     assert!(rt; world.owner(&RECEIVE) == Some(User(2)));
     assert!(rt; took(&world.receive(RAM_WORKER, Manager::Ram), User(2)));
     assert!(rt; matches!(&world.perform_held(RAM_WORKER, 5)?, Outcome::Handled));

@@ -74,8 +74,8 @@ fn keeps_last(rt: &impl Abort, alloc: Global, room: usize) -> Result<(), NoMemor
     let count = traced.entries().len();
     let skipped = count.saturating_sub(room);
     let piece = running.recent(0)?;
-    assert_eq!(rt; running.taken(), count as u64);
-    assert_eq!(rt; piece.first, skipped as u64 + 1);
+    assert!(rt; running.taken() == count as u64);
+    assert!(rt; piece.first == skipped as u64 + 1);
     assert!(rt; are_last(&piece.steps, traced.entries(), skipped));
     Ok(())
 }
@@ -115,14 +115,14 @@ fn counts_what_was_cut(rt: HostRuntime) -> Result<(), NoMemory> {
         return Err(NoMemory);
     }
     let piece = running.recent(2)?;
-    assert_eq!(rt; piece.steps.len(), 1);
-    assert_eq!(rt; piece.steps[0].step_bytes, 100);
-    assert_eq!(rt; piece.steps[0].owner, Some(User(1)));
+    assert!(rt; piece.steps.len() == 1);
+    assert!(rt; piece.steps[0].step_bytes == 100);
+    assert!(rt; piece.steps[0].owner == Some(User(1)));
     match &piece.steps[0].entry.step {
         Step::Call {
             request: Request::Write { bytes, .. },
             ..
-        } => assert_eq!(rt; bytes.len(), 40),
+        } => assert!(rt; bytes.len() == 40),
         _ => panic!(rt; "another step"),
     }
     Ok(())
@@ -132,20 +132,17 @@ fn counts_what_was_cut(rt: HostRuntime) -> Result<(), NoMemory> {
 fn serves_lines_in_turn(rt: HostRuntime) -> Result<(), NoMemory> {
     let alloc = rt.alloc();
     let mut running = ran_on(&rt, alloc, 0, THREE_LINES)?;
-    assert_eq!(rt; running.next_manager(), Some(Manager::Ram));
+    assert!(rt; running.next_manager() == Some(Manager::Ram));
     run(
         &rt,
         alloc,
         &mut running,
         "receive 1 ram\nperform 1 5\nreply ann.1.1\nopen ann.1.1 /ann r 000\n",
     )?;
-    assert_eq!(rt; running.next_manager(), Some(Manager::Pipe));
+    assert!(rt; running.next_manager() == Some(Manager::Pipe));
     run(&rt, alloc, &mut running, "receive 1 pipe\nperform 1 6\n")?;
-    assert_eq!(rt;
-        running.next_manager(),
-        Some(Manager::Device(Device::Latch))
-    );
+    assert!(rt; running.next_manager() == Some(Manager::Device(Device::Latch)));
     run(&rt, alloc, &mut running, HIGHER)?;
-    assert_eq!(rt; running.next_manager(), Some(Manager::Ram));
+    assert!(rt; running.next_manager() == Some(Manager::Ram));
     Ok(())
 }

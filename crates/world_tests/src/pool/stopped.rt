@@ -20,7 +20,7 @@ fn one_seat_kept(rt: HostRuntime) -> Result<(), NoMemory> {
         &["work 1"],
     )?;
     let entries = ran.traced(&rt).entries();
-    assert_eq!(rt; entries.len(), 5);
+    assert!(rt; entries.len() == 5);
     let end = entries.last().map(|entry| &entry.outcome);
     assert!(rt; matches!(end, Some(Outcome::Reply(3, _))));
     Ok(())
