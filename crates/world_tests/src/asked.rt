@@ -1,9 +1,10 @@
 //! A request, taken from its call to its answer by `ask`.
 
 use crate::calling::ask;
+use crate::reads::opens_third;
 use crate::same::first_thread;
 use crate::script::ran;
-use qx_types::{Bytes, MessageBytes, NoMemory, OFlags, Outcome, Request, User};
+use qx_types::{Bytes, NoMemory, OFlags, Request, User};
 
 #[test]
 fn opens_the_root(rt: HostRuntime) -> Result<(), NoMemory> {
@@ -14,6 +15,6 @@ fn opens_the_root(rt: HostRuntime) -> Result<(), NoMemory> {
         mode: 0,
     };
     assert!(rt; ask(&mut traced, first_thread(User(1)), open, 5).is_ok());
-    assert!(rt; *traced.last() == Outcome::Reply(3, MessageBytes::inline(rt.alloc(), b"")));
+    assert!(rt; opens_third(traced.last()));
     Ok(())
 }

@@ -123,7 +123,7 @@ fn took(outcome: &Outcome, user: User) -> bool {
 }
 
 /// Whether an outcome is the reply of an open: connection 3, and no bytes.
-fn opens_third(outcome: &Outcome) -> bool {
+pub(crate) fn opens_third(outcome: &Outcome) -> bool {
     match outcome {
         Outcome::Reply(3, content) => content.as_slice().is_empty(),
         _ => false,

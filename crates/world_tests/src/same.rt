@@ -95,10 +95,14 @@ fn has_same_transcript(one: &Traced, other: &Traced, user: User) -> Result<bool,
 }
 
 pub(crate) fn is_same_received(one: &[Seen], other: &[Seen]) -> bool {
-    for (seen, other) in one.iter().zip(other.iter()) {
+    if one.len() != other.len() {
+        return false;
+    }
+    for place in 0..one.len() {
+        let (seen, other) = (&one[place], &other[place]);
         if seen.actor != other.actor || seen.outcome != other.outcome {
             return false;
         }
     }
-    one.len() == other.len()
+    true
 }

@@ -59,14 +59,19 @@ pub(crate) fn thread(user: u8, tid: u8) -> Thread {
 
 /// Whether a call ended with what its last step told, unless it ended early.
 fn is_told(end: &CallEnd, notes: &[Note]) -> bool {
-    match (end, notes.last().map(|note| &note.outcome)) {
-        (CallEnd::Stopped | CallEnd::NoMemory, _) => true,
-        (CallEnd::Reply(status, bytes), Some(Outcome::Reply(told, content))) => {
+    if matches!(end, CallEnd::Stopped | CallEnd::NoMemory) {
+        return true;
+    }
+    let Some(note) = notes.last() else {
+        return false;
+    };
+    match (end, &note.outcome) {
+        (CallEnd::Reply(status, bytes), Outcome::Reply(told, content)) => {
             status == told && bytes == content
         }
-        (CallEnd::Failed(error), Some(Outcome::Failed(told))) => error == told,
-        (CallEnd::Refused(error), Some(Outcome::Refused(told))) => error == told,
-        (CallEnd::WrongState, Some(Outcome::WrongState)) => true,
+        (CallEnd::Failed(error), Outcome::Failed(told)) => error == told,
+        (CallEnd::Refused(error), Outcome::Refused(told)) => error == told,
+        (CallEnd::WrongState, Outcome::WrongState) => true,
         _ => false,
     }
 }

@@ -145,8 +145,9 @@ fn take_recorded(
             if again.store(step).is_err() {
                 return Err(NoMemory);
             }
-            if again.entries().last().map(|entry| &entry.outcome) != Some(&outcome) {
-                return Ok(Retaken::Differs);
+            match again.entries().last() {
+                Some(entry) if entry.outcome == outcome => {}
+                _ => return Ok(Retaken::Differs),
             }
         }
     }
