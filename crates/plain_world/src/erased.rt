@@ -1,7 +1,6 @@
 //! What each user received, in the run of steps and in the run anew of those that were taken by or for the user.
 
 use anyhow::bail;
-use qx_machine::Seen;
 use qx_types::{Config, Step, User};
 use qx_world::Traced;
 use std::alloc::Global;
@@ -32,21 +31,11 @@ fn compare_user(traced: &Traced, user: User) -> anyhow::Result<()> {
     let (Ok(whole), Ok(anew)) = (traced.transcript(user), erased.transcript(user)) else {
         bail!("out of memory");
     };
-    if !are_same(whole.as_slice(), anew.as_slice()) {
+    if whole != anew {
         bail!("{user:?} received something else in the erased run");
     }
     if anew.is_empty() || erased.entries().len() >= traced.entries().len() {
         bail!("{user:?} has no step, or no other user has one");
     }
     Ok(())
-}
-
-/// Whether the same was received by the same processes and threads.
-fn are_same(whole: &[Seen], anew: &[Seen]) -> bool {
-    for (one, other) in whole.iter().zip(anew.iter()) {
-        if one.actor != other.actor || one.outcome != other.outcome {
-            return false;
-        }
-    }
-    whole.len() == anew.len()
 }

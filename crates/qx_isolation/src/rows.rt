@@ -34,14 +34,14 @@ pub struct Held {
 }
 
 /// A step that was taken, with its outcome.
-#[derive(Debug, Drop)]
+#[derive(Debug, Drop, PartialEq, Eq)]
 pub struct Entry {
     pub step: Step,
     pub outcome: Outcome,
 }
 
 /// What a client step of a user gave, and to whom.
-#[derive(Debug, Drop)]
+#[derive(Debug, Drop, PartialEq, Eq)]
 pub struct Seen {
     pub actor: Actor,
     pub outcome: Outcome,
