@@ -1,6 +1,2 @@
--- of which threads that came for which clients wait
-mod ReleasedLemmas
--- what is done at a seat
-mod SeatLemmas
--- sets of threads, as bits
-mod WaitLemmas
+-- how calls, and the waiting for a pulse, end at a seat
+mod EndLemmas

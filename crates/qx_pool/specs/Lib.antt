@@ -1,4 +1,1 @@
-pub mod Awaits
 pub mod Ends
-pub mod Waits
-pub mod inner

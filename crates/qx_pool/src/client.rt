@@ -4,44 +4,13 @@ ghost use Rattle.std.specs.Prelude.{◌≡◌, ◌≢◌, true, IfErr, IfOk, Mat
 ghost use Rattle.qx_types.specs.Step.{is_client_step};
 ghost use Rattle.qx_types.specs.declared.outcome.Outcome.{Outcome};
 ghost use Rattle.qx_pool.specs.Ends.{CallAdds, PulseAdds};
-ghost use Rattle.qx_pool.specs.inner.Ends.{end_of, pulse_end_of};
 
 use crate::server::ServerOf;
-use crate::spinner::Spinner;
-use crate::waits::{Awaited, Coming};
-use qx_types::{Errno, MessageBytes, Outcome, Request, Step, Thread};
+use qx_ends::{CallEnd, PulseEnd, call_end, pulse_end};
+use qx_monitor::{Awaited, Coming, Spinner};
+use qx_types::{Outcome, Request, Step, Thread};
 use qx_world::{UnderLock, Unstored};
 use std::sync::Wait;
-
-/// How a call ended.
-#[derive(Debug, Drop, PartialEq, Eq)]
-pub enum CallEnd {
-    /// The manager's reply: its status and its bytes (C Library Reference: `MsgReply`).
-    Reply(u64, MessageBytes),
-    /// The manager's error (C Library Reference: `MsgError`).
-    Failed(Errno),
-    /// The call was refused at once.
-    Refused(Errno),
-    /// The thread is not there or not ready; or its process ended, or its answer was taken, while the client waited.
-    WrongState,
-    /// The server was stopped. A message that was sent stands where it stood.
-    Stopped,
-    /// Memory was short, for the call or for its answer, which the thread then has still.
-    NoMemory,
-}
-
-/// How the waiting for a pulse ended.
-#[derive(Clone, Copy, Debug, Drop, PartialEq, Eq)]
-pub enum PulseEnd {
-    /// The pulse's code and its value (C Library Reference: `MsgReceivePulse`).
-    Pulse(u8, u64),
-    /// The process is not there, or has ended.
-    WrongState,
-    /// The server was stopped. A pulse that comes later is left.
-    Stopped,
-    /// Memory was short. The process has its pulse still.
-    NoMemory,
-}
 
 /// A thread of a process, at a seat of a server.
 #[derive(Drop)]
@@ -82,8 +51,8 @@ impl<S: UnderLock> ClientOf<S> {
         ensures seat { CallAdds S.adds S.keeps self.old.thread request self.old.seat self.new.seat result }
         ensures thread { self.new.thread ≡ self.old.thread }
     {
-        let thread = self.thread;
-        let mut guard = server.lock(rt);
+        let (monitor, thread) = (&server.monitor, self.thread);
+        let mut guard = monitor.lock(rt);
         if guard.is_stopped() {
             return CallEnd::Stopped;
         }
@@ -94,19 +63,19 @@ impl<S: UnderLock> ClientOf<S> {
             return CallEnd::NoMemory;
         };
         if !is_sent(&outcome) {
-            return end_of(outcome);
+            return call_end(outcome);
         }
-        let woken = server.woken(&guard);
+        let woken = monitor.woken(&guard);
         let answer = Awaited::OfThread(Coming::Answer, thread);
-        let begun = server.begin(&mut guard, answer);
+        let begun = monitor.begin(&mut guard, answer);
         drop(guard);
-        server.wake_worker(woken);
-        let mut guard = server.lock_for(rt, &mut self.spinner, answer, begun);
+        monitor.wake_worker(woken);
+        let mut guard = monitor.lock_for(rt, &mut self.spinner, answer, begun);
         if guard.world().blocked(thread) {
             return CallEnd::Stopped;
         }
         match guard.under.take(&mut self.seat, Step::TakeReply { thread }) {
-            Ok(outcome) => end_of(outcome),
+            Ok(outcome) => call_end(outcome),
             Err(_) => CallEnd::NoMemory,
         }
     }
@@ -118,12 +87,13 @@ impl<S: UnderLock> ClientOf<S> {
     {
         let proc = self.thread.proc;
         let first = Thread { proc, tid: 1 };
-        let mut guard = server.lock_for_thread(rt, &mut self.spinner, Coming::Pulse, first);
+        let monitor = &server.monitor;
+        let mut guard = monitor.lock_for_thread(rt, &mut self.spinner, Coming::Pulse, first);
         if guard.is_stopped() || guard.world().lacks_pulse(proc) {
             return PulseEnd::Stopped;
         }
         match guard.under.take(&mut self.seat, Step::TakePulse { proc }) {
-            Ok(outcome) => pulse_end_of(&outcome),
+            Ok(outcome) => pulse_end(&outcome),
             Err(_) => PulseEnd::NoMemory,
         }
     }
@@ -142,15 +112,16 @@ impl<S: UnderLock> ClientOf<S> {
         ensures thread { self.new.thread ≡ self.old.thread }
     {
         let user = step.actor().map(|actor| actor.user());
-        let mut guard = server.lock(rt);
+        let monitor = &server.monitor;
+        let mut guard = monitor.lock(rt);
         let result = guard.under.take(&mut self.seat, step);
         let released = user.map(|user| guard.released(user));
-        let woken = server.woken(&guard);
+        let woken = monitor.woken(&guard);
         drop(guard);
         if let Some(released) = released {
-            server.wake_clients(released);
+            monitor.wake_clients(released);
         }
-        server.wake_worker(woken);
+        monitor.wake_worker(woken);
         result
     }
 }
@@ -160,26 +131,4 @@ fn is_sent(outcome: &Outcome) -> bool
     ensures { MatchBool result (outcome.now ≡ Outcome.Sent) (outcome.now ≢ Outcome.Sent) }
 {
     matches!(outcome, Outcome::Sent)
-}
-
-/// The end of a call that was not sent, or whose answer was taken.
-fn end_of(outcome: Outcome) -> CallEnd
-    ensures { result ≡ end_of outcome }
-{
-    match outcome {
-        Outcome::Reply(status, bytes) => CallEnd::Reply(status, bytes),
-        Outcome::Failed(error) => CallEnd::Failed(error),
-        Outcome::Refused(error) => CallEnd::Refused(error),
-        _ => CallEnd::WrongState,
-    }
-}
-
-/// The end of the waiting for a pulse, whose taking gave this.
-fn pulse_end_of(outcome: &Outcome) -> PulseEnd
-    ensures { result ≡ pulse_end_of outcome.now }
-{
-    match outcome {
-        Outcome::Pulse(code, value) => PulseEnd::Pulse(*code, *value),
-        _ => PulseEnd::WrongState,
-    }
 }

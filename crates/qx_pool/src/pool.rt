@@ -3,7 +3,8 @@
 ghost use Rattle.std.specs.Prelude.{◌≡◌, ◌+◌, ◌≤◌, [], All, IfOk, OnOk, vec_len};
 
 use crate::client::ClientOf;
-use crate::server::{ServerOf, condvars};
+use crate::server::ServerOf;
+use qx_monitor::Bells;
 use qx_storing::{Seat, Storing};
 use qx_types::{Config, NoMemory};
 use std::alloc::{AllocError, Global};
@@ -37,7 +38,7 @@ impl<L: Ledger> Server<L> {
         add_seats(alloc, &mut seats, &mut all, workers)?;
         add_seats(alloc, &mut seats, &mut all, clients)?;
         let under = Storing::new(alloc, config, book, all)?;
-        let bells = condvars(alloc)?;
+        let bells = Bells::new(alloc)?;
         let server = ServerOf::over(under, bells, seats.len());
         Ok((server, seats))
     }

@@ -5,7 +5,8 @@ ghost use Rattle.qx_running.specs.Running.{IsOfRun, Now};
 ghost use Rattle.qx_running.specs.Told.{IsPiece};
 
 use crate::client::ClientOf;
-use crate::server::{ServerOf, condvars};
+use crate::server::ServerOf;
+use qx_monitor::Bells;
 use qx_running::{Piece, Running};
 use qx_world::World;
 use std::alloc::{AllocError, Global};
@@ -22,7 +23,7 @@ impl Service {
     pub fn new(alloc: Global, world: World, room: usize) -> Result<Service, World>
         ensures { IfErr result (λ back. back ≡ world) }
     {
-        let Ok(bells) = condvars(alloc) else {
+        let Ok(bells) = Bells::new(alloc) else {
             return Err(world);
         };
         let running = Running::new(alloc, world, room)?;
@@ -34,7 +35,7 @@ impl Service {
     pub fn recent(&self, rt: &impl Wait, from: u64) -> Result<Piece, AllocError>
         ensures { IfOk result (λ piece. (now : Now) × IsOfRun now × IsPiece now from piece) }
     {
-        self.lock(rt).under.recent(from)
+        self.monitor.lock(rt).under.recent(from)
     }
 
     /// The world, once all threads have left. A server that is made of it goes on with what workers hold.

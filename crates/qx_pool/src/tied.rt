@@ -7,8 +7,9 @@ ghost use Rattle.qx_tied.specs.Tied.{done_at, own_from};
 ghost use Rattle.qx_running.specs.Told.{IsPiece};
 
 use crate::client::ClientOf;
-use crate::server::{ServerOf, condvars};
+use crate::server::ServerOf;
 use qx_history::Opened;
+use qx_monitor::Bells;
 use qx_running::Piece;
 use qx_tied::{Event, OfRun, Seat, Tied};
 use qx_world::World;
@@ -37,7 +38,7 @@ impl<J: OfRun> TiedService<J> {
         ensures none { IfOk result (λ r. All (λ s. s.events ≡ []) r.1.items) }
         ensures back { IfErr result (λ back. back ≡ world) }
     {
-        let Ok(bells) = condvars(alloc) else {
+        let Ok(bells) = Bells::new(alloc) else {
             return Err(world);
         };
         let (tied, seats) = Tied::new(alloc, opened, world, room, seats)?;
@@ -48,14 +49,14 @@ impl<J: OfRun> TiedService<J> {
     pub fn recent(&self, rt: &impl Wait, from: u64) -> Result<Piece, AllocError>
         ensures { IfOk result (λ piece. (tied : TiedRun) × IsRunFrom J.began tied × IsPiece tied.run from piece) }
     {
-        self.lock(rt).under.recent(from)
+        self.monitor.lock(rt).under.recent(from)
     }
 
     /// Whether a seat knows all that was done there so far. Then that is all of the run's own entries of the seat.
     pub fn holds(&self, rt: &impl Wait, seat: &Seat<J>) -> bool
         ensures { result ≡ true → (tied : TiedRun) × IsRunFrom J.began tied × (own_from seat.now.seat J.began tied.steps ≡ done_at J.began seat.now) }
     {
-        self.lock(rt).under.holds(seat)
+        self.monitor.lock(rt).under.holds(seat)
     }
 
     /// The world, once all threads have left.

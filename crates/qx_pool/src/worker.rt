@@ -2,10 +2,8 @@
 
 ghost use Rattle.qx_world.specs.Seats.{Works};
 
-use crate::locked::HeldCopy;
 use crate::server::ServerOf;
-use crate::spinner::{Begun, Spinner};
-use crate::waits::Awaited;
+use qx_monitor::{Awaited, Begun, HeldCopy, Monitor, Spinner};
 use qx_types::{Item, Outcome, Worker};
 use qx_wire::Parsed;
 use qx_world::{PerformFault, UnderLock, Work};
@@ -35,18 +33,19 @@ pub fn worker_loop<S: UnderLock, G: Gate, C: Clock, R: Wait>(
     ensures { Works S.adds S.keeps worker.0 seat result }
 {
     let mut seat = seat;
+    let monitor = &server.monitor;
     let mut spinner = Spinner::new();
-    let Some(mut begun) = resume(rt, server, &mut seat, worker, clock) else {
+    let Some(mut begun) = resume(rt, monitor, &mut seat, worker, clock) else {
         return seat;
     };
     'working: for _ in rt.forever() {
-        let received = receive(rt, server, &mut seat, worker, &mut spinner, begun);
+        let received = receive(rt, monitor, &mut seat, worker, &mut spinner, begun);
         let Some((item, held)) = received else {
             return seat;
         };
         let work = decoded(held);
         gate.between(rt, worker, item);
-        let Some(next) = perform(rt, server, &mut seat, worker, work, clock) else {
+        let Some(next) = perform(rt, monitor, &mut seat, worker, work, clock) else {
             return seat;
         };
         begun = next;
@@ -58,27 +57,27 @@ pub fn worker_loop<S: UnderLock, G: Gate, C: Clock, R: Wait>(
 /// is none.
 fn resume<S: UnderLock, C: Clock, R: Wait>(
     rt: &R,
-    server: &ServerOf<S>,
+    monitor: &Monitor<S>,
     seat: &mut S::Seat,
     worker: Worker,
     clock: &C,
 ) -> Option<Begun>
     ensures { Works S.adds S.keeps worker.0 seat.old seat.new }
 {
-    let mut guard = server.lock(rt);
+    let mut guard = monitor.lock(rt);
     let is_worker = guard.is_worker(worker);
     let held = guard.held(worker);
     let is_free = is_worker && matches!(held, Ok(None));
-    let begun = server.look(&mut guard, is_free);
+    let begun = monitor.look(&mut guard, is_free);
     drop(guard);
     if !is_worker {
         return None;
     }
     match held {
-        Ok(Some(held)) => perform(rt, server, seat, worker, decoded(held), clock),
+        Ok(Some(held)) => perform(rt, monitor, seat, worker, decoded(held), clock),
         Ok(None) => begun,
         Err(_) => {
-            server.stop(rt);
+            monitor.stop(rt);
             None
         }
     }
@@ -88,7 +87,7 @@ fn resume<S: UnderLock, C: Clock, R: Wait>(
 /// loop ends.
 fn receive<S: UnderLock, R: Wait>(
     rt: &R,
-    server: &ServerOf<S>,
+    monitor: &Monitor<S>,
     seat: &mut S::Seat,
     worker: Worker,
     spinner: &mut Spinner,
@@ -96,16 +95,16 @@ fn receive<S: UnderLock, R: Wait>(
 ) -> Option<(Item, HeldCopy)>
     ensures { Works S.adds S.keeps worker.0 seat.old seat.new }
 {
-    let mut guard = server.lock_for(rt, spinner, Awaited::Item, begun);
+    let mut guard = monitor.lock_for(rt, spinner, Awaited::Item, begun);
     let manager = guard.under.next_manager()?;
     let received = guard.receive(seat, worker, manager);
-    let woken = server.woken(&guard);
+    let woken = monitor.woken(&guard);
     drop(guard);
-    server.wake_worker(woken);
+    monitor.wake_worker(woken);
     match received {
         Ok(received) => received,
         Err(_) => {
-            server.stop(rt);
+            monitor.stop(rt);
             None
         }
     }
@@ -114,7 +113,7 @@ fn receive<S: UnderLock, R: Wait>(
 /// Performs what the worker holds, wakes who was answered by that, and begins to wait for an item. None where the loop ends.
 fn perform<S: UnderLock, C: Clock, R: Wait>(
     rt: &R,
-    server: &ServerOf<S>,
+    monitor: &Monitor<S>,
     seat: &mut S::Seat,
     worker: Worker,
     work: Work,
@@ -123,20 +122,20 @@ fn perform<S: UnderLock, C: Clock, R: Wait>(
     ensures { Works S.adds S.keeps worker.0 seat.old seat.new }
 {
     let moment = clock.moment();
-    let mut guard = server.lock(rt);
+    let mut guard = monitor.lock(rt);
     let user = guard.user_of_work(worker);
     let done = guard.under.perform(seat, worker, &work, moment);
     let released = user.map(|user| guard.released(user));
     let is_done = matches!(done, Ok(Outcome::Handled));
-    let begun = server.look(&mut guard, is_done);
+    let begun = monitor.look(&mut guard, is_done);
     drop(guard);
     if let Some(released) = released {
-        server.wake_clients(released);
+        monitor.wake_clients(released);
     }
     match done {
         Ok(Outcome::Handled) => begun,
         Err(PerformFault::NoMemory) => {
-            server.stop(rt);
+            monitor.stop(rt);
             None
         }
         _ => None,

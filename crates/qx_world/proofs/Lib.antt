@@ -4,3 +4,5 @@ mod LoanLemmas
 mod TraceLemmas
 -- which outcomes steps have
 pub mod OutcomeLemmas
+-- what a worker does at a seat
+pub mod WorkLemmas

@@ -1,5 +1,5 @@
 use Rattle.qx_types.specs.declared.step.Step.TheVariants.{Perform}
-use Rattle.qx_pool.proofs.SeatLemmas.{own, works_on}
+use Rattle.qx_world.proofs.WorkLemmas.{own, works_on}
 use Rattle.qx_pool.proofs.worker.perform.Goals as goal
 
 pub returns-in-Ok-Handled-done : goal.returns-in-Ok-Handled-done

@@ -1,4 +1,4 @@
-use Rattle.qx_pool.proofs.SeatLemmas.{works_more}
+use Rattle.qx_world.proofs.WorkLemmas.{works_more}
 use Rattle.qx_pool.proofs.worker.worker_loop.Goals as goal
 
 pub returns-in_default-received : goal.returns-in_default-received

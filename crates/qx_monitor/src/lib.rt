@@ -1,0 +1,20 @@
+//! One lock, under which threads take steps, and how they wait there for what comes to it.
+//!
+//! - `monitor.rt`: `Monitor`, the lock and where threads sleep
+//! - `locked.rt`: what lies under the lock, and who waits for what
+//! - `waits.rt`: what threads wait for
+//! - `spinner.rt`: how a thread that waits spins before it sleeps
+//!
+//! What lies under the lock is any `UnderLock`. `Awaits.antt` says in the machine's words what threads wait for, `Waits.antt` how
+//! sets of threads stand in bits.
+#![tactic(auto)]
+
+mod locked;
+mod monitor;
+mod spinner;
+mod waits;
+
+pub use locked::{HeldCopy, Locked};
+pub use monitor::{Bells, Monitor};
+pub use spinner::{Begun, Spinner};
+pub use waits::{Awaited, Coming, ThreadSet, Woken};

@@ -1,5 +1,0 @@
-use Rattle.qx_pool.proofs.WaitLemmas.{none_waits}
-use Rattle.qx_pool.proofs.waits.Waits.new.Goals as goal
-
-pub returns : goal.returns
-returns c = λ thread. none_waits 256 thread

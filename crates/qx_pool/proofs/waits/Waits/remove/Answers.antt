@@ -1,6 +1,0 @@
-use Rattle.std.proofs.Common.{arith}
-use Rattle.qx_pool.proofs.WaitLemmas.{waits_no_longer}
-use Rattle.qx_pool.proofs.waits.Waits.remove.Goals as goal
-
-pub returns : goal.returns
-returns c = λ thread. rw c.from.ensures (waits_no_longer c.args.self.now.words c.args.threads.user.0 c.args.threads.bits (omega arith) (omega arith) thread)
