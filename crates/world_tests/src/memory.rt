@@ -2,7 +2,7 @@
 
 use crate::reads::{RECEIVE, held};
 use crate::rows::ROWS;
-use crate::same::{is_same, is_same_received, is_same_so_far};
+use crate::same::{is_same, is_same_so_far};
 use crate::script::{booted, ran, steps, store, store_all};
 use all_memory::{at_last, take_all_memory};
 use qx_machine::Entry;
@@ -187,8 +187,7 @@ fn is_read_at_last(alloc: Global, traced: &Traced, user: User) -> Result<bool, N
     let alone = at_last(take_all_memory(alloc)?, || traced.erased(user).ok());
     Ok(match (seen, alone) {
         (Some((seen, true)), Some((alone, true))) => {
-            is_same_received(&seen, &received)
-                && is_same_received(&alone.transcript(user)?, &received)
+            seen == received && alone.transcript(user)? == received
         }
         _ => false,
     })

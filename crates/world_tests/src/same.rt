@@ -1,6 +1,5 @@
 //! Whether two traces are the same, as far as can be seen of them.
 
-use qx_machine::{Entry, Seen};
 use qx_types::{Manager, NoMemory, Proc, Thread, User, Worker};
 use qx_world::{Traced, WorkRef, World};
 
@@ -19,24 +18,11 @@ pub(crate) fn is_same_so_far(one: &Traced, other: &Traced) -> bool {
 /// Whether that, the stored steps with their outcomes, and each user's transcript are the same.
 pub(crate) fn is_same(one: &Traced, other: &Traced) -> Result<bool, NoMemory> {
     Ok(
-        has_same_entries(one.entries(), other.entries())
+        one.entries() == other.entries()
             && is_same_world(one.world(), other.world())
             && has_same_transcript(one, other, User(1))?
             && has_same_transcript(one, other, User(2))?,
     )
-}
-
-fn has_same_entries(one: &[Entry], other: &[Entry]) -> bool {
-    for (entry, other) in one.iter().zip(other.iter()) {
-        if !is_same_entry(entry, other) {
-            return false;
-        }
-    }
-    one.len() == other.len()
-}
-
-fn is_same_entry(one: &Entry, other: &Entry) -> bool {
-    one.step == other.step && one.outcome == other.outcome
 }
 
 /// Whether what each worker holds, which threads are answered and blocked, and how many items wait in each line are the same.
@@ -89,20 +75,5 @@ fn has_same_thread(one: &World, other: &World, thread: Thread) -> bool {
 
 /// Whether a user's processes received the same.
 fn has_same_transcript(one: &Traced, other: &Traced, user: User) -> Result<bool, NoMemory> {
-    let received = one.transcript(user)?;
-    let other = other.transcript(user)?;
-    Ok(is_same_received(&received, &other))
-}
-
-pub(crate) fn is_same_received(one: &[Seen], other: &[Seen]) -> bool {
-    if one.len() != other.len() {
-        return false;
-    }
-    for place in 0..one.len() {
-        let (seen, other) = (&one[place], &other[place]);
-        if seen.actor != other.actor || seen.outcome != other.outcome {
-            return false;
-        }
-    }
-    true
+    Ok(one.transcript(user)? == other.transcript(user)?)
 }

@@ -10,7 +10,7 @@ use crate::same::is_same;
 use crate::script::{self, config, ran, steps};
 use all_memory::{at_last, take_all_memory};
 use qx_pool::{CallEnd, Client, Seat, Server, finish, worker_loop};
-use qx_types::{Bytes, Config, NoMemory, Request, Step, Worker};
+use qx_types::{Bytes, Config, NoMemory, Request, Step, User, Worker};
 use std::alloc::{AllocError, Global};
 use std::marker::Brand;
 use std::process::Abort;
@@ -49,8 +49,9 @@ fn each_request_refused(rt: HostRuntime) {
     let workers = ["work 1\nstat ann.1.1 /ann", "work 2\nstat ann.1.1 /ann"];
     for on in BOTH {
         if let Ok(ran) = run(&rt, rt.alloc(), on, users, None, &[ANN, BOB], &workers) {
-            assert!(rt; ran.has_ended(2, &[CallEnd::Stopped]));
-            assert!(rt; ran.has_ended(3, &[CallEnd::Stopped]));
+            assert!(rt;
+                ran.has_ended(2, &[CallEnd::Stopped]) && ran.has_ended(3, &[CallEnd::Stopped])
+            );
         }
     }
 }
@@ -133,7 +134,7 @@ fn serve_at_last<L: Ledger, R: Wait + Abort>(
     requires seats { blank.parts ≡ config.workers + 1 }
 {
     let (server, mut seats) = Server::<L>::new(alloc, blank, config, 1)?;
-    let mut client = Client::new(seats.pop().expect(rt, "a seat"), thread(1, 3));
+    let mut client = Client::new(seats.pop().expect(rt, "a seat"), thread(User(1), 3));
     for step in steps(rt, alloc, CALLS)? {
         assert!(rt; is_taken_at_last(rt, alloc, &server, &mut client, step)?);
     }

@@ -2,12 +2,11 @@
 
 use crate::pool::acts::{Act, Signals, read};
 use crate::pool::servers::{On, serve, serve_on};
-use qx_machine::{Entry, Seen};
-use qx_play::text::push_transcript;
+use qx_play::text::{push_outcome, push_transcript};
 use qx_pool::{CallEnd, ClientOf, Note, Seat, ServerOf, UnderLock, worker_loop};
 use qx_script::{Script, parse};
-use qx_types::{Actor, Item, NoMemory, Outcome, Prio, Proc, Step, Thread, User};
-use qx_world::{Traced, World};
+use qx_types::{Item, Manager, NoMemory, Outcome, Proc, Step, Thread, User};
+use qx_world::Traced;
 use std::alloc::Global;
 use std::marker::Brand;
 use std::process::Abort;
@@ -50,9 +49,25 @@ impl Tells for () {
     }
 }
 
+/// What is to be seen of a run.
+#[derive(Clone, Copy, Debug)]
+pub(crate) enum Wanted {
+    /// A user received these lines, as `show` prints them, and would have in the run of the user's own steps.
+    Received(User, &'static str),
+    /// The stored steps gave this, one after another.
+    Gave(&'static str),
+    /// The calls of a thread, by its place among the clients and then the workers, ended so, as they are printed for debugging.
+    Ended(usize, &'static str),
+    /// The first thread of a user's first process is answered.
+    Answered(User),
+    /// It waits for an answer.
+    Blocked(User),
+    /// So many items stand in a manager's line.
+    Waiting(Manager, usize),
+}
+
 /// A thread of a user's first process.
-pub(crate) fn thread(user: u8, tid: u8) -> Thread {
-    let user = User(user);
+pub(crate) fn thread(user: User, tid: u8) -> Thread {
     let proc = Proc { user, num: 1 };
     Thread { proc, tid }
 }
@@ -98,7 +113,7 @@ where
     S::Seat: Tells,
 {
     let Role { acts, mut ends } = role;
-    let mut helper = ClientOf::new(seat, thread(1, 1));
+    let mut helper = ClientOf::new(seat, thread(User(1), 1));
     for act in acts {
         match act {
             Act::Call(thread, request) => {
@@ -121,7 +136,7 @@ where
             Act::Work(worker) => {
                 let seat = helper.into_seat();
                 let seat = worker_loop(rt, server, seat, worker, signals, signals);
-                helper = ClientOf::new(seat, thread(1, 1));
+                helper = ClientOf::new(seat, thread(User(1), 1));
             }
             Act::Await(count) => signals.wait_for(rt, count),
             Act::Raise => signals.raise(),
@@ -226,13 +241,8 @@ pub(crate) fn run<R: Threads + Wait + Abort + Sync>(
 
 impl Ran {
     /// The trace.
-    pub(crate) fn traced(&self, rt: &impl Abort) -> &Traced {
+    fn traced(&self, rt: &impl Abort) -> &Traced {
         self.traced.as_ref().expect(rt, "a trace")
-    }
-
-    /// The world that the steps came to.
-    pub(crate) fn world(&self, rt: &impl Abort) -> &World {
-        self.traced(rt).world()
     }
 
     /// Whether the calls of a thread ended so.
@@ -243,41 +253,42 @@ impl Ran {
         }
     }
 
-    /// Asserts that a user received these lines, as `show` prints them, and would have in the run of the user's own steps.
-    pub(crate) fn assert_received(
+    /// Whether this is seen of the run.
+    pub(crate) fn has(
         &self,
         rt: &impl Abort,
         alloc: Global,
-        user: User,
-        lines: &str,
-    ) -> Result<(), NoMemory> {
-        let whole = self.traced(rt);
-        let alone = whole.erased(user)?;
-        for traced in [whole, &alone] {
-            assert!(rt; shown(alloc, traced, user)?.as_slice() == lines.as_bytes());
-        }
-        Ok(())
+        wanted: &Wanted,
+    ) -> Result<bool, NoMemory> {
+        let traced = self.traced(rt);
+        let world = traced.world();
+        Ok(match wanted {
+            Wanted::Received(user, lines) => {
+                let alone = traced.erased(*user)?;
+                is_shown(alloc, traced, *user, lines)? && is_shown(alloc, &alone, *user, lines)?
+            }
+            Wanted::Gave(lines) => {
+                let mut text = Vec::new(alloc);
+                for entry in traced.entries() {
+                    push_outcome(&mut text, traced.config(), &entry.outcome)?;
+                    text.push(b'\n')?;
+                }
+                text.as_slice() == lines.as_bytes()
+            }
+            Wanted::Ended(place, ends) => match self.ends.get(*place) {
+                Some(ended) => format!(in alloc; "{ended:?}")?.as_str() == *ends,
+                None => false,
+            },
+            Wanted::Answered(user) => world.answered(thread(*user, 1)),
+            Wanted::Blocked(user) => world.blocked(thread(*user, 1)),
+            Wanted::Waiting(manager, count) => world.waiting(*manager) == *count,
+        })
     }
 }
 
-/// What a user received, as `show` prints it.
-fn shown(alloc: Global, traced: &Traced, user: User) -> Result<Vec<u8>, NoMemory> {
-    let mut entries = Vec::new(alloc);
-    let (threads, prio) = (1, Prio(1));
-    for Seen { actor, outcome } in traced.transcript(user)? {
-        // Some step of the actor, of which nothing else is printed.
-        let step = match actor {
-            Actor::OfUser(user) => Step::Spawn {
-                user,
-                threads,
-                prio,
-            },
-            Actor::OfProc(proc) => Step::TakePulse { proc },
-            Actor::OfThread(thread) => Step::TakeReply { thread },
-        };
-        entries.push(Entry { step, outcome })?;
-    }
+/// Whether a user received these lines.
+fn is_shown(alloc: Global, traced: &Traced, user: User, lines: &str) -> Result<bool, NoMemory> {
     let mut text = Vec::new(alloc);
-    push_transcript(&mut text, traced.config(), &entries, user)?;
-    Ok(text)
+    push_transcript(&mut text, traced.config(), traced.entries(), user)?;
+    Ok(text.as_slice() == lines.as_bytes())
 }

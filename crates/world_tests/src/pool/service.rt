@@ -34,7 +34,7 @@ fn signals() -> Signals {
 
 /// Takes steps of clients, and waits for none. Whether each was taken.
 fn take_all(rt: &impl Wait, service: &Service, taken: Vec<Step>) -> bool {
-    let mut client = ServiceClient::new((), thread(1, 1));
+    let mut client = ServiceClient::new((), thread(User(1), 1));
     for step in taken {
         if !step.is_client() || client.step(rt, service, step).is_err() {
             return false;
@@ -73,7 +73,7 @@ fn goes_on_with_what_is_held(rt: HostRuntime) -> Result<(), NoMemory> {
     let piece = second.recent(&rt, 0)?;
     assert!(rt; piece.first == 1 && piece.steps.len() == 3);
     let world = second.into_world();
-    assert!(rt; world.answered(thread(1, 1)) && world.answered(thread(1, 2)));
+    assert!(rt; world.answered(thread(User(1), 1)) && world.answered(thread(User(1), 2)));
     Ok(())
 }
 
@@ -87,7 +87,7 @@ const TOLD: &str = "\
 
 /// Waits for pulses of the first process until it has ended, and then for one of the second process.
 fn wait_thrice(rt: &impl Wait, service: &Service, signals: &Signals) -> [PulseEnd; 3] {
-    let mut client = ServiceClient::new((), thread(1, 1));
+    let mut client = ServiceClient::new((), thread(User(1), 1));
     let pulse = client.pulse(rt, service);
     signals.raise();
     let ended = client.pulse(rt, service);
@@ -107,7 +107,7 @@ fn wake_thrice<R: Wait + Abort>(
     service: &Service,
     signals: &Signals,
 ) -> Result<(), NoMemory> {
-    let mut client = ServiceClient::new((), thread(1, 2));
+    let mut client = ServiceClient::new((), thread(User(1), 2));
     for request in requests(rt, alloc, TOLD)? {
         client.call(rt, service, request);
     }
