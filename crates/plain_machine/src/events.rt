@@ -1,10 +1,10 @@
 //! Notifications and pulses: what a message asks for, the step that takes a pulse, and what is looked at.
 
 use crate::Plain;
+use crate::rows::Wanted;
 use plain_rules::events::Event;
 use plain_rules::files::{Fault, PipeLook};
 use plain_rules::messages::{from_place, number_at};
-use plain_rules::pipes::has_waiters;
 use qx_types::{Coid, LimitName, Outcome, Proc, User};
 
 /// Where the body of a message stands.
@@ -47,11 +47,7 @@ impl Plain {
 
     /// One of the connections of a process that have a block with nothing armed, by its place among them.
     pub fn unarmed_connection(&self, proc: Proc, place: usize) -> Option<Coid> {
-        self.connections
-            .iter()
-            .filter(|row| row.proc == proc && self.is_unarmed(proc.user, row.block))
-            .nth(place)
-            .map(|row| row.coid)
+        self.wanted_connection(proc, place, Wanted::Unarmed)
     }
 
     /// One of the connections of a process that have a block in a mount of pipes or devices, by its place among them,
@@ -64,13 +60,18 @@ impl Plain {
 
     /// Whether a process has an event armed over one of its connections to a mount of pipes or devices.
     pub fn has_armed_pipe(&self, proc: Proc) -> bool {
-        self.connections.iter().any(|row| row.proc == proc
-            && has_waiters(row.manager)
-            && row.block.is_some()
-            && !self.is_unarmed(proc.user, row.block))
+        for row in self.connections.iter() {
+            if row.proc == proc
+                && self.is_wanted(row, Wanted::Waiting)
+                && !self.is_unarmed(proc.user, row.block)
+            {
+                return true;
+            }
+        }
+        false
     }
 
-    fn is_unarmed(&self, user: User, block: Option<u16>) -> bool {
+    pub(crate) fn is_unarmed(&self, user: User, block: Option<u16>) -> bool {
         match block {
             Some(block) => !self.files.events.is_armed(user, block),
             None => false,
@@ -79,11 +80,7 @@ impl Plain {
 
     /// One of the connections of a process that have no block yet, by its place among them.
     pub fn unopened_connection(&self, proc: Proc, place: usize) -> Option<Coid> {
-        self.connections
-            .iter()
-            .filter(|row| row.proc == proc && row.block.is_none())
-            .nth(place)
-            .map(|row| row.coid)
+        self.wanted_connection(proc, place, Wanted::Unopened)
     }
 
     /// How many pulses nobody has taken, of all users.

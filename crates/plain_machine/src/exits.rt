@@ -13,16 +13,45 @@ impl Plain {
         if !self.processes.contains(&proc) {
             return Ok(Outcome::WrongState);
         }
-        self.processes.retain(|other| *other != proc);
+        for place in (0..self.processes.len()).rev() {
+            if self.processes.get(place) == Some(&proc) {
+                self.processes.remove(place);
+            }
+        }
         self.ended.push(proc)?;
-        self.threads.retain(|row| row.thread.proc != proc);
-        self.connections.retain(|row| row.proc != proc);
-        self.lines.retain(|queued| !queued.post.is_of_thread(proc));
+        self.drop_rows(proc);
         self.files.abandon(proc);
-        for manager in (0..Manager::COUNT).filter_map(Manager::of_number) {
-            self.settle_server(proc, manager)?;
+        for number in 0..Manager::COUNT {
+            if let Some(manager) = Manager::of_number(number) {
+                self.settle_server(proc, manager)?;
+            }
         }
         Ok(Outcome::Done)
+    }
+
+    /// Drops the threads of a process, its connections, and the items that stand in a line for its threads.
+    fn drop_rows(&mut self, proc: Proc) {
+        for place in (0..self.threads.len()).rev() {
+            if let Some(row) = self.threads.get(place)
+                && row.thread.proc == proc
+            {
+                self.threads.remove(place);
+            }
+        }
+        for place in (0..self.connections.len()).rev() {
+            if let Some(row) = self.connections.get(place)
+                && row.proc == proc
+            {
+                self.connections.remove(place);
+            }
+        }
+        for place in (0..self.lines.len()).rev() {
+            if let Some(queued) = self.lines.get(place)
+                && queued.post.is_of_thread(proc)
+            {
+                self.lines.remove(place);
+            }
+        }
     }
 
     /// Ended processes go of which nothing is left.
@@ -37,9 +66,17 @@ impl Plain {
 
     /// Whether an ended process has a server connection, an item in a worker's hand, or a call that waits.
     fn is_kept(&self, proc: Proc) -> bool {
-        self.servers.iter().any(|server| server.name.proc == proc)
-            || self.hands.iter().any(|hand| hand.post.proc() == proc)
-            || self.files.waiting(Who::OfProcess(proc)) > 0
+        for server in self.servers.iter() {
+            if server.name.proc == proc {
+                return true;
+            }
+        }
+        for hand in self.hands.iter() {
+            if hand.post.proc() == proc {
+                return true;
+            }
+        }
+        self.files.waiting(Who::OfProcess(proc)) > 0
     }
 
     /// The processes that have ended, and of which something is left.
@@ -69,10 +106,12 @@ impl Plain {
 
     /// Whether calls of ended processes wait in the pipe or at the device that a connection of a process has open.
     pub fn has_gone(&self, proc: Proc, coid: Coid) -> bool {
-        match self.connection(proc, coid).and_then(|row| row.block) {
-            Some(block) => self.files.has_gone(proc.user, block),
-            None => false,
+        if let Some(row) = self.connection(proc, coid)
+            && let Some(block) = row.block
+        {
+            return self.files.has_gone(proc.user, block);
         }
+        false
     }
 
     /// Whether that call of a thread waits.
@@ -97,9 +136,12 @@ impl Plain {
 
     /// Whether a process has a server connection that is leaving.
     pub fn has_left(&self, proc: Proc) -> bool {
-        self.servers
-            .iter()
-            .any(|server| server.name.proc == proc && server.is_leaving)
+        for server in self.servers.iter() {
+            if server.name.proc == proc && server.is_leaving {
+                return true;
+            }
+        }
+        false
     }
 
     /// How many events are armed of processes that have ended.
@@ -113,21 +155,34 @@ impl Plain {
 
     /// Whether an ended process of a user has an event armed.
     pub fn has_late_event(&self, user: User) -> bool {
-        self.ended
-            .iter()
-            .any(|proc| proc.user == user && self.has_armed(*proc))
+        for proc in self.ended.iter() {
+            if proc.user == user && self.has_armed(*proc) {
+                return true;
+            }
+        }
+        false
     }
 
     /// Whether a block of a user is one of an ended process.
     pub fn has_late_block(&self, user: User) -> bool {
-        self.files.blocks.iter().any(|block| block.user == user
-            && self.has_ended(block.server.proc))
+        for block in self.files.blocks.iter() {
+            if block.user == user && self.has_ended(block.server.proc) {
+                return true;
+            }
+        }
+        false
     }
 
     /// Whether a server connection of a user at a manager is one of an ended process.
     pub fn has_late_server(&self, user: User, manager: Manager) -> bool {
-        self.servers.iter().any(|server| server.name.proc.user == user
-            && server.name.manager == manager
-            && self.has_ended(server.name.proc))
+        for server in self.servers.iter() {
+            if server.name.proc.user == user
+                && server.name.manager == manager
+                && self.has_ended(server.name.proc)
+            {
+                return true;
+            }
+        }
+        false
     }
 }

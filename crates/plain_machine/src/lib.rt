@@ -30,7 +30,7 @@ use qx_types::{
     Thread, User, Worker,
 };
 pub use rows::{Over, Post, Row, Sent, State};
-use rows::{Connection, Hand, Queued, ServerConnection, first_out, line_up};
+use rows::{Connection, Hand, Queued, ServerConnection, Wanted, first_out, is_reached, line_up};
 use std::alloc::{AllocError, Global};
 
 /// All rows of all users, one vector for each kind.
@@ -453,7 +453,7 @@ impl Plain {
         let Some(post) = self.hand(worker) else {
             return Ok(Outcome::Nothing);
         };
-        self.hands.retain(|hand| hand.worker != worker);
+        self.drop_hand(worker);
         match post {
             Post::Message(thread) => self.serve(thread, moment)?,
             Post::Unblock(thread, call) => {
@@ -522,42 +522,57 @@ impl Plain {
 
     /// The row of a thread.
     pub fn row(&self, thread: Thread) -> Option<&Row> {
-        self.threads.iter().find(|row| row.thread == thread)
+        for row in self.threads.iter() {
+            if row.thread == thread {
+                return Some(row);
+            }
+        }
+        None
     }
 
     /// How many connections of a process have a block.
     pub fn open_count(&self, proc: Proc) -> usize {
-        self.connections
-            .iter()
-            .filter(|row| row.proc == proc && row.block.is_some())
-            .count()
+        let mut count: usize = 0;
+        for row in self.connections.iter() {
+            count = count.saturating_add(usize::from(row.proc == proc && row.block.is_some()));
+        }
+        count
     }
 
     /// One of the connections of a process that have a block, by its place among them.
     pub fn open_connection(&self, proc: Proc, place: usize) -> Option<Coid> {
-        self.connections
-            .iter()
-            .filter(|row| row.proc == proc && row.block.is_some())
-            .nth(place)
-            .map(|row| row.coid)
+        self.wanted_connection(proc, place, Wanted::Open)
     }
 
     /// One of the connections of a process that have a block in a mount of pipes or devices, by its place among them.
     pub fn pipe_connection(&self, proc: Proc, place: usize) -> Option<Coid> {
-        self.connections
-            .iter()
-            .filter(|row| row.proc == proc && has_waiters(row.manager) && row.block.is_some())
-            .nth(place)
-            .map(|row| row.coid)
+        self.wanted_connection(proc, place, Wanted::Waiting)
     }
 
     /// One of the connections of a process that have a block with others, by its place among them.
     pub fn shared_connection(&self, proc: Proc, place: usize) -> Option<Coid> {
-        self.connections
-            .iter()
-            .filter(|row| row.proc == proc && self.is_block_shared(row))
-            .nth(place)
-            .map(|row| row.coid)
+        self.wanted_connection(proc, place, Wanted::Shared)
+    }
+
+    /// One of the wanted connections of a process, by its place among them.
+    fn wanted_connection(&self, proc: Proc, place: usize, wanted: Wanted) -> Option<Coid> {
+        let mut left = place;
+        for row in self.connections.iter() {
+            if row.proc == proc && self.is_wanted(row, wanted) && is_reached(&mut left) {
+                return Some(row.coid);
+            }
+        }
+        None
+    }
+
+    fn is_wanted(&self, row: &Connection, wanted: Wanted) -> bool {
+        match wanted {
+            Wanted::Open => row.block.is_some(),
+            Wanted::Waiting => has_waiters(row.manager) && row.block.is_some(),
+            Wanted::Shared => self.is_block_shared(row),
+            Wanted::Unarmed => self.is_unarmed(row.proc.user, row.block),
+            Wanted::Unopened => row.block.is_none(),
+        }
     }
 
     /// Whether a connection of a process has a block with others.
@@ -577,18 +592,18 @@ impl Plain {
 
     /// The path of one of a user's mounts of pipes or devices, by its place among them.
     pub fn pipe_mount(&self, user: User, place: usize) -> Option<&Bytes> {
-        self.mounts
-            .with_waiters(user, place)
-            .map(|mount| &mount.text)
+        Some(&self.mounts.with_waiters(user, place)?.text)
     }
 
     /// The first of the managers that have rules here of which a user has the fewest mounts.
     pub fn least_mounted(&self, user: User) -> Manager {
         let mut least = (usize::MAX, Manager::Ram);
-        for manager in (0..usize::from(MANAGERS)).filter_map(Manager::of_number) {
-            let count = self.mounts.count(user, manager);
-            if count < least.0 {
-                least = (count, manager);
+        for number in 0..usize::from(MANAGERS) {
+            if let Some(manager) = Manager::of_number(number) {
+                let count = self.mounts.count(user, manager);
+                if count < least.0 {
+                    least = (count, manager);
+                }
             }
         }
         least.1
@@ -596,39 +611,49 @@ impl Plain {
 
     /// One of the connections of a process that have a block for writing a file, by its place among them, and the offset.
     pub fn writable(&self, proc: Proc, place: usize) -> Option<(Coid, u64)> {
-        self.connections
-            .iter()
-            .filter(|row| row.proc == proc && row.manager == Manager::Ram)
-            .filter_map(|row| Some((row.coid, self.files.write_offset(proc.user, row.block?)?)))
-            .nth(place)
+        let mut left = place;
+        for row in self.connections.iter() {
+            if row.proc == proc
+                && row.manager == Manager::Ram
+                && let Some(block) = row.block
+                && let Some(offset) = self.files.write_offset(proc.user, block)
+                && is_reached(&mut left)
+            {
+                return Some((row.coid, offset));
+            }
+        }
+        None
     }
 
     /// How many paths of a user lead to something, but for those of mounts.
     pub fn path_count(&self, user: User) -> usize {
-        self.files
-            .names
-            .iter()
-            .filter(|name| name.user == user)
-            .count()
+        let mut count: usize = 0;
+        for name in self.files.names.iter() {
+            count = count.saturating_add(usize::from(name.user == user));
+        }
+        count
     }
 
     /// One of these paths, by its place among them.
     pub fn known_path(&self, user: User, place: usize) -> Result<Option<Bytes>, AllocError> {
-        let found = self
-            .files
-            .names
-            .iter()
-            .filter(|name| name.user == user)
-            .nth(place);
-        if let Some(name) = found
-            && let Some(mount) = self.mounts.with_root(user, name.root)
-        {
-            let mut path = Vec::from_slice(self.alloc, mount.text.as_slice())?;
-            path.push(b'/')?;
-            path.extend_from_slice(name.path.as_slice())?;
-            return Ok(Some(Bytes::from_vec(path)));
+        let mut left = place;
+        for name in self.files.names.iter() {
+            if name.user == user && is_reached(&mut left) {
+                return self.path_behind(user, name.root, name.path.as_slice());
+            }
         }
         Ok(None)
+    }
+
+    /// The path of what is behind a user's mount with that root.
+    fn path_behind(&self, user: User, root: u16, rest: &[u8]) -> Result<Option<Bytes>, AllocError> {
+        let Some(mount) = self.mounts.with_root(user, root) else {
+            return Ok(None);
+        };
+        let mut path = Vec::from_slice(self.alloc, mount.text.as_slice())?;
+        path.push(b'/')?;
+        path.extend_from_slice(rest)?;
+        Ok(Some(Bytes::from_vec(path)))
     }
 
     /// Whether a user can have no further block.
@@ -643,8 +668,7 @@ impl Plain {
 
     /// What a worker holds, with the bytes of a message.
     pub fn held(&self, worker: Worker) -> Option<Held<'_>> {
-        let hand = self.hands.iter().find(|hand| hand.worker == worker)?;
-        match &hand.bytes {
+        match &self.hand_row(worker)?.bytes {
             Some(bytes) => Some(Held::Message(bytes)),
             None => Some(Held::Pulse),
         }
@@ -652,25 +676,44 @@ impl Plain {
 
     /// What a worker holds, by its name.
     pub fn hand(&self, worker: Worker) -> Option<Post> {
-        let hand = self.hands.iter().find(|hand| hand.worker == worker)?;
-        Some(hand.post)
+        Some(self.hand_row(worker)?.post)
+    }
+
+    fn hand_row(&self, worker: Worker) -> Option<&Hand> {
+        for hand in self.hands.iter() {
+            if hand.worker == worker {
+                return Some(hand);
+            }
+        }
+        None
     }
 
     /// Whether a worker holds an item.
     pub fn is_held(&self, post: Post) -> bool {
-        self.hands.iter().any(|hand| hand.post == post)
+        for hand in self.hands.iter() {
+            if hand.post == post {
+                return true;
+            }
+        }
+        false
     }
 
     /// How many items stand in a manager's line.
     pub fn waiting(&self, manager: Manager) -> usize {
-        self.lines
-            .iter()
-            .filter(|queued| queued.manager == manager)
-            .count()
+        let mut count: usize = 0;
+        for queued in self.lines.iter() {
+            count = count.saturating_add(usize::from(queued.manager == manager));
+        }
+        count
     }
 
     fn row_mut(&mut self, thread: Thread) -> Option<&mut Row> {
-        self.threads.iter_mut().find(|row| row.thread == thread)
+        for row in self.threads.iter_mut() {
+            if row.thread == thread {
+                return Some(row);
+            }
+        }
+        None
     }
 
     fn set_state(&mut self, thread: Thread, state: State) {
@@ -693,7 +736,24 @@ impl Plain {
 
     /// Drops an item where it stands in a line.
     fn drop_post(&mut self, post: Post) {
-        self.lines.retain(|queued| queued.post != post);
+        for place in (0..self.lines.len()).rev() {
+            if let Some(queued) = self.lines.get(place)
+                && queued.post == post
+            {
+                self.lines.remove(place);
+            }
+        }
+    }
+
+    /// Drops what a worker holds.
+    fn drop_hand(&mut self, worker: Worker) {
+        for place in (0..self.hands.len()).rev() {
+            if let Some(hand) = self.hands.get(place)
+                && hand.worker == worker
+            {
+                self.hands.remove(place);
+            }
+        }
     }
 
     fn is_worker(&self, worker: Worker) -> bool {
@@ -702,29 +762,39 @@ impl Plain {
 
     /// The lowest number that no process of the user has. One that has ended keeps its number.
     fn free_process(&self, user: User) -> Option<u8> {
-        let num = (1..=16).find(|num| {
-            let proc = Proc { user, num: *num };
-            !self.processes.contains(&proc) && !self.ended.contains(&proc)
-        })?;
-        if usize::from(num) <= self.files.limit(user, LimitName::Processes) {
-            Some(num)
-        } else {
-            None
+        let most = self.files.limit(user, LimitName::Processes);
+        for num in 1..=16 {
+            let proc = Proc { user, num };
+            if usize::from(num) <= most
+                && !self.processes.contains(&proc)
+                && !self.ended.contains(&proc)
+            {
+                return Some(num);
+            }
         }
+        None
     }
 
     fn free_connection(&self, proc: Proc) -> Result<Coid, Errno> {
         let most = self.files.limit(proc.user, LimitName::Connections);
-        match (3..=66).find(|number| self.connection(proc, Coid(*number)).is_none()) {
-            Some(number) if usize::from(number).saturating_sub(2) <= most => Ok(Coid(number)),
-            _ => Err(Errno::EMFILE),
+        for number in 3..=66 {
+            let coid = Coid(number);
+            if usize::from(number).saturating_sub(2) <= most
+                && self.connection(proc, coid).is_none()
+            {
+                return Ok(coid);
+            }
         }
+        Err(Errno::EMFILE)
     }
 
     fn connection(&self, proc: Proc, coid: Coid) -> Option<&Connection> {
-        self.connections
-            .iter()
-            .find(|row| row.proc == proc && row.coid == coid)
+        for row in self.connections.iter() {
+            if row.proc == proc && row.coid == coid {
+                return Some(row);
+            }
+        }
+        None
     }
 
     /// At which manager a connection is that is there.
@@ -744,8 +814,14 @@ impl Plain {
     }
 
     fn detach(&mut self, proc: Proc, coid: Coid) {
-        self.connections
-            .retain(|row| row.proc != proc || row.coid != coid);
+        for place in (0..self.connections.len()).rev() {
+            if let Some(row) = self.connections.get(place)
+                && row.proc == proc
+                && row.coid == coid
+            {
+                self.connections.remove(place);
+            }
+        }
     }
 }
 

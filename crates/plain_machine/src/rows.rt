@@ -56,6 +56,17 @@ pub struct Connection {
     pub block: Option<u16>,
 }
 
+/// Which connections are looked for: those that have a block, that have it in a mount of pipes or devices, with others or
+/// with nothing armed, or that have none yet.
+#[derive(Clone, Copy)]
+pub enum Wanted {
+    Open,
+    Waiting,
+    Shared,
+    Unarmed,
+    Unopened,
+}
+
 /// A server connection. One that is leaving has its pulse in the line or in a worker's hand, and is not used again.
 #[derive(Drop)]
 pub struct ServerConnection {
@@ -118,17 +129,34 @@ pub struct Hand {
 /// Puts an item behind all of its priority, before the first of a lower one in its manager's line. The lines of all
 /// managers are one vector.
 pub fn line_up(lines: &mut Vec<Queued>, item: Queued) -> Result<(), AllocError> {
-    let place = lines.iter().position(|other| other.manager == item.manager
-        && other.prio.0 < item.prio.0);
-    match place {
-        Some(place) => lines.insert(place, item)?,
-        None => lines.push(item)?,
+    for place in 0..lines.len() {
+        if let Some(other) = lines.get(place)
+            && other.manager == item.manager
+            && other.prio.0 < item.prio.0
+        {
+            lines.insert(place, item)?;
+            return Ok(());
+        }
     }
+    lines.push(item)?;
     Ok(())
 }
 
 /// Takes the first item out of a manager's line.
 pub fn first_out(lines: &mut Vec<Queued>, manager: Manager) -> Option<Post> {
-    let place = lines.iter().position(|queued| queued.manager == manager)?;
-    Some(lines.remove(place).post)
+    for place in 0..lines.len() {
+        if let Some(queued) = lines.get(place)
+            && queued.manager == manager
+        {
+            return Some(lines.remove(place).post);
+        }
+    }
+    None
+}
+
+/// Whether the row with the wanted place among those that are counted is reached: none is left before it. Else one less is.
+pub fn is_reached(left: &mut usize) -> bool {
+    let is_reached = *left == 0;
+    *left = left.saturating_sub(1);
+    is_reached
 }

@@ -17,10 +17,12 @@ impl ServerConnection {
 impl Plain {
     /// The server connection that a process has in use at a manager.
     pub fn used_server(&self, proc: Proc, manager: Manager) -> Option<ServerName> {
-        self.servers
-            .iter()
-            .find(|server| server.is_used(proc, manager))
-            .map(|server| server.name)
+        for server in self.servers.iter() {
+            if server.is_used(proc, manager) {
+                return Some(server.name);
+            }
+        }
+        None
     }
 
     /// Whether a process has a server connection in use at a manager.
@@ -30,11 +32,12 @@ impl Plain {
 
     /// Whether a process may attach something at a manager: over the server connection in use, or over a new one.
     pub fn may_connect(&self, proc: Proc, manager: Manager) -> bool {
-        let count = self
-            .servers
-            .iter()
-            .filter(|server| server.name.proc.user == proc.user && server.name.manager == manager)
-            .count();
+        let mut count: usize = 0;
+        for server in self.servers.iter() {
+            if server.name.proc.user == proc.user && server.name.manager == manager {
+                count = count.saturating_add(1);
+            }
+        }
         count < self.files.limit(proc.user, LimitName::Servers) || self.is_connected(proc, manager)
     }
 
@@ -53,19 +56,26 @@ impl Plain {
 
     /// The name with the lowest number that no server connection of the process at the manager has.
     fn free_server(&self, proc: Proc, manager: Manager) -> Option<ServerName> {
-        let number = (1..=64).find(|number| {
+        for number in 1..=64 {
             let name = ServerName {
                 proc,
                 manager,
-                number: *number,
+                number,
             };
-            !self.servers.iter().any(|server| server.name == name)
-        })?;
-        Some(ServerName {
-            proc,
-            manager,
-            number,
-        })
+            if !self.has_server(name) {
+                return Some(name);
+            }
+        }
+        None
+    }
+
+    fn has_server(&self, name: ServerName) -> bool {
+        for server in self.servers.iter() {
+            if server.name == name {
+                return true;
+            }
+        }
+        false
     }
 
     /// Where nothing of a process is attached at a manager any more, the server connection in use is leaving.
@@ -73,18 +83,16 @@ impl Plain {
         if self.is_attached(proc, manager) {
             return Ok(());
         }
-        let found = self
-            .servers
-            .iter_mut()
-            .find(|server| server.is_used(proc, manager));
-        if let Some(server) = found {
-            server.is_leaving = true;
-            let item = Queued {
-                manager,
-                post: Post::Disconnect(server.name),
-                prio: Prio(255),
-            };
-            line_up(&mut self.lines, item)?;
+        for server in self.servers.iter_mut() {
+            if server.is_used(proc, manager) {
+                server.is_leaving = true;
+                let item = Queued {
+                    manager,
+                    post: Post::Disconnect(server.name),
+                    prio: Prio(255),
+                };
+                return line_up(&mut self.lines, item);
+            }
         }
         Ok(())
     }
@@ -96,25 +104,38 @@ impl Plain {
             let answers = self.files.free(name.proc.user, block, moment)?;
             self.answer_all(answers);
         }
-        self.servers.retain(|server| server.name != name);
+        for place in (0..self.servers.len()).rev() {
+            if let Some(server) = self.servers.get(place)
+                && server.name == name
+            {
+                self.servers.remove(place);
+            }
+        }
         Ok(())
     }
 
     /// Whether a process has a connection at a manager, or one for a message alone.
     fn is_attached(&self, proc: Proc, manager: Manager) -> bool {
-        self.connections
-            .iter()
-            .any(|row| row.proc == proc && row.manager == manager)
-            || self.threads.iter().any(|row| row.thread.proc == proc
-                && has_side(&row.state, manager))
+        for row in self.connections.iter() {
+            if row.proc == proc && row.manager == manager {
+                return true;
+            }
+        }
+        for row in self.threads.iter() {
+            if row.thread.proc == proc && has_side(&row.state, manager) {
+                return true;
+            }
+        }
+        false
     }
 
     /// How many server connections are leaving, of all users.
     pub fn leaving(&self) -> usize {
-        self.servers
-            .iter()
-            .filter(|server| server.is_leaving)
-            .count()
+        let mut count: usize = 0;
+        for server in self.servers.iter() {
+            count = count.saturating_add(usize::from(server.is_leaving));
+        }
+        count
     }
 }
 

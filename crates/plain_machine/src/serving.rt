@@ -89,9 +89,13 @@ impl Plain {
         kind: Kind,
     ) -> Result<(), Fault> {
         let (_, block) = self.opened(thread.proc, sent)?;
+        let call = match self.row(thread) {
+            Some(row) => row.calls,
+            None => 0,
+        };
         let caller = Caller {
             thread,
-            call: self.row(thread).map_or(0, |row| row.calls),
+            call,
             block,
             is_asked: sent.is_asked,
             is_gone: false,

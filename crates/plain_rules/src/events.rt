@@ -25,6 +25,13 @@ pub struct Event {
     pub is_wide: bool,
 }
 
+impl Event {
+    /// Whether it is of this block of a user.
+    fn is_on(&self, user: User, block: u16) -> bool {
+        self.proc.user == user && self.block == block
+    }
+}
+
 /// A pulse that its process has not taken yet.
 #[derive(Clone, Copy)]
 struct Pulse {
@@ -95,7 +102,13 @@ impl Events {
 
     /// What a block has armed goes.
     pub fn disarm(&mut self, user: User, block: u16) {
-        self.armed.retain(|(event, _)| event.proc.user != user || event.block != block);
+        for place in (0..self.armed.len()).rev() {
+            if let Some((event, _)) = self.armed.get(place)
+                && event.is_on(user, block)
+            {
+                let _ = self.armed.remove(place);
+            }
+        }
     }
 
     /// All armed events, which are to be put back or to give their pulses.
@@ -126,19 +139,32 @@ impl Events {
 
     /// Takes the code and the value of the first pulse of a process.
     pub fn take_pulse(&mut self, proc: Proc) -> Option<(u8, u64)> {
-        let place = self.pulses.iter().position(|pulse| pulse.proc == proc)?;
-        let pulse = self.pulses.remove(place);
-        Some((pulse.code, pulse.value))
+        for place in 0..self.pulses.len() {
+            if let Some(pulse) = self.pulses.get(place)
+                && pulse.proc == proc
+            {
+                let pulse = self.pulses.remove(place);
+                return Some((pulse.code, pulse.value));
+            }
+        }
+        None
     }
 
     /// The pulses of a process go.
     pub fn drop_pulses(&mut self, proc: Proc) {
-        self.pulses.retain(|pulse| pulse.proc != proc);
+        for _ in 0..self.pulses.len() {
+            let _ = self.take_pulse(proc);
+        }
     }
 
     /// Whether a block has an event armed.
     pub fn is_armed(&self, user: User, block: u16) -> bool {
-        self.armed.iter().any(|(event, _)| event.proc.user == user && event.block == block)
+        for (event, _) in self.armed.iter() {
+            if event.is_on(user, block) {
+                return true;
+            }
+        }
+        false
     }
 
     /// How many armed events and untaken pulses a user has.
@@ -149,15 +175,21 @@ impl Events {
 
     /// How many events a process has armed.
     pub fn armed_by(&self, proc: Proc) -> usize {
-        self.armed
-            .iter()
-            .filter(|(event, _)| event.proc == proc)
-            .count()
+        let mut count: usize = 0;
+        for (event, _) in self.armed.iter() {
+            count = count.saturating_add(usize::from(event.proc == proc));
+        }
+        count
     }
 
     /// Whether a process has untaken pulses.
     pub fn has_pulse(&self, proc: Proc) -> bool {
-        self.pulses.iter().any(|pulse| pulse.proc == proc)
+        for pulse in self.pulses.iter() {
+            if pulse.proc == proc {
+                return true;
+            }
+        }
+        false
     }
 
     /// How many untaken pulses there are for all users.
@@ -167,18 +199,20 @@ impl Events {
 
     /// How many events a user has armed.
     fn armed_count(&self, user: User) -> usize {
-        self.armed
-            .iter()
-            .filter(|(event, _)| event.proc.user == user)
-            .count()
+        let mut count: usize = 0;
+        for (event, _) in self.armed.iter() {
+            count = count.saturating_add(usize::from(event.proc.user == user));
+        }
+        count
     }
 
     /// How many untaken pulses there are for a user.
     fn pulse_count(&self, user: User) -> usize {
-        self.pulses
-            .iter()
-            .filter(|pulse| pulse.proc.user == user)
-            .count()
+        let mut count: usize = 0;
+        for pulse in self.pulses.iter() {
+            count = count.saturating_add(usize::from(pulse.proc.user == user));
+        }
+        count
     }
 
     /// The process of one of the untaken pulses, by its place among them.

@@ -78,25 +78,37 @@ impl Mounts {
 
     /// One of a user's mounts of managers at which calls may wait, by its place among them.
     pub fn with_waiters(&self, user: User, place: usize) -> Option<&Mount> {
-        self.rows
-            .iter()
-            .filter(|mount| mount.user == user && has_waiters(mount.manager))
-            .nth(place)
+        let mut before: usize = 0;
+        for mount in self.rows.iter() {
+            if mount.user == user && has_waiters(mount.manager) {
+                if before == place {
+                    return Some(mount);
+                }
+                before = before.saturating_add(1);
+            }
+        }
+        None
     }
 
     /// The mount of a user that has an inode for its root.
     pub fn with_root(&self, user: User, root: u16) -> Option<&Mount> {
-        self.rows
-            .iter()
-            .find(|mount| mount.user == user && mount.root == root)
+        for mount in self.rows.iter() {
+            if mount.user == user && mount.root == root {
+                return Some(mount);
+            }
+        }
+        None
     }
 
     /// How many mounts of a manager a user has beside the top.
     pub fn count(&self, user: User, manager: Manager) -> usize {
-        self.rows
-            .iter()
-            .filter(|mount| mount.user == user && mount.manager == manager && mount.root != 1)
-            .count()
+        let mut count: usize = 0;
+        for mount in self.rows.iter() {
+            if mount.user == user && mount.manager == manager && mount.root != 1 {
+                count = count.saturating_add(1);
+            }
+        }
+        count
     }
 
     /// Whether a user may attach a manager at the path of a text.
@@ -104,16 +116,16 @@ impl Mounts {
         if judge_top(config, user, text).is_err() {
             return Err(Errno::EACCES);
         }
-        let is_own = |mount: &&Mount| mount.user == user;
-        if self
-            .rows
-            .iter()
-            .filter(is_own)
-            .any(|mount| mount.text.as_slice() == text)
-        {
-            return Err(Errno::EEXIST);
+        let mut own: usize = 0;
+        for mount in self.rows.iter() {
+            if mount.user == user {
+                if mount.text.as_slice() == text {
+                    return Err(Errno::EEXIST);
+                }
+                own = own.saturating_add(1);
+            }
         }
-        if self.rows.iter().filter(is_own).count() >= config.limits(user).get(LimitName::Mounts) {
+        if own >= config.limits(user).get(LimitName::Mounts) {
             return Err(Errno::ENOSPC);
         }
         Ok(())
@@ -128,13 +140,23 @@ pub fn judge_form(path: &[u8]) -> Result<(), Errno> {
     if path.first() != Some(&b'/') {
         return Err(Errno::EINVAL);
     }
-    for component in path.split(|byte| *byte == b'/') {
-        if component.len() > 64 {
-            return Err(Errno::ENAMETOOLONG);
+    let mut start = 0;
+    for (end, byte) in path.iter().enumerate() {
+        if *byte == b'/' {
+            judge_component(path.get(start..end).unwrap_or(&[]))?;
+            start = end.saturating_add(1);
         }
-        if matches!(component, b"." | b"..") || component.contains(&0) {
-            return Err(Errno::EINVAL);
-        }
+    }
+    judge_component(path.get(start..).unwrap_or(&[]))
+}
+
+/// Whether bytes without a slash may stand between two, judged by their number first.
+fn judge_component(component: &[u8]) -> Result<(), Errno> {
+    if component.len() > 64 {
+        return Err(Errno::ENAMETOOLONG);
+    }
+    if matches!(component, b"." | b"..") || component.contains(&0) {
+        return Err(Errno::EINVAL);
     }
     Ok(())
 }
@@ -142,28 +164,35 @@ pub fn judge_form(path: &[u8]) -> Result<(), Errno> {
 /// The text of a path, however its slashes stand.
 pub fn text_of(alloc: Global, path: &[u8]) -> Result<Bytes, AllocError> {
     let mut text = Vec::new(alloc);
-    for component in path.split(|byte| *byte == b'/') {
-        if !component.is_empty() {
-            text.push(b'/')?;
-            text.extend_from_slice(component)?;
+    let mut before = b'/';
+    for byte in path {
+        if *byte != b'/' {
+            if before == b'/' {
+                text.push(b'/')?;
+            }
+            text.push(*byte)?;
         }
+        before = *byte;
     }
     Ok(Bytes::from_vec(text))
 }
 
 /// Whether a text begins with the user's own name. No text at all and another user's name are EACCES.
 fn judge_top(config: &Config, user: User, text: &[u8]) -> Result<(), Errno> {
-    let Some(first) = text.split(|byte| *byte == b'/').nth(1) else {
+    let Some(names) = text.strip_prefix(b"/") else {
         return Err(Errno::EACCES);
     };
-    let own = config.name(user).map(|name| name.as_slice());
-    if own == Some(first) {
-        Ok(())
-    } else if config.names().iter().any(|name| name.as_slice() == first) {
-        Err(Errno::EACCES)
-    } else {
-        Err(Errno::ENOENT)
+    if let Some(own) = config.name(user)
+        && behind(names, own.as_slice()).is_some()
+    {
+        return Ok(());
     }
+    for name in config.names() {
+        if behind(names, name.as_slice()).is_some() {
+            return Err(Errno::EACCES);
+        }
+    }
+    Err(Errno::ENOENT)
 }
 
 /// What a text has behind another one and a slash, if it begins with that.

@@ -101,15 +101,12 @@ impl Pipe {
     pub fn blocking_process(&self) -> Option<Proc> {
         let (first, _) = self.writers.first()?;
         let proc = first.thread.proc;
-        let (_, bytes) = self
-            .writers
-            .iter()
-            .find(|(caller, _)| caller.thread.proc != proc)?;
-        if self.kept.has_room(bytes.len()) {
-            Some(proc)
-        } else {
-            None
+        for (caller, bytes) in self.writers.iter() {
+            if caller.thread.proc != proc {
+                return self.kept.has_room(bytes.len()).then_some(proc);
+            }
         }
+        None
     }
 
     /// A process has ended. Its calls stay until the pipe is cleaned.
@@ -121,8 +118,8 @@ impl Pipe {
     /// Calls of processes that have ended go, and nobody is answered for them. Others may be served by that.
     fn clean(&mut self) -> Result<Given, AllocError> {
         let mut given = Given::new(self.alloc);
-        self.readers.retain(|(caller, _)| !Who::Gone.takes(caller));
-        self.writers.retain(|(caller, _)| !Who::Gone.takes(caller));
+        remove(&mut self.readers, Who::Gone);
+        remove(&mut self.writers, Who::Gone);
         self.settle(&mut given)?;
         Ok(given)
     }
@@ -284,8 +281,19 @@ fn refuse<T: Drop>(
             given.fail(caller.thread, error)?;
         }
     }
-    waiting.retain(|(caller, _)| !who.takes(caller));
+    remove(waiting, who);
     Ok(())
+}
+
+/// Some of those who wait do so no longer.
+fn remove<T: Drop>(waiting: &mut Vec<(Caller, T)>, who: Who) {
+    for place in (0..waiting.len()).rev() {
+        if let Some((caller, _)) = waiting.get(place)
+            && who.takes(caller)
+        {
+            let _ = waiting.remove(place);
+        }
+    }
 }
 
 /// Calls of a process are from now on those of one that has ended.
@@ -298,8 +306,9 @@ fn abandon<T>(waiting: &mut Vec<(Caller, T)>, proc: Proc) {
 }
 
 fn count<T>(waiting: &Vec<(Caller, T)>, who: Who) -> usize {
-    waiting
-        .iter()
-        .filter(|(caller, _)| who.takes(caller))
-        .count()
+    let mut count: usize = 0;
+    for (caller, _) in waiting.iter() {
+        count = count.saturating_add(usize::from(who.takes(caller)));
+    }
+    count
 }

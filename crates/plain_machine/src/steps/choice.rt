@@ -1,5 +1,6 @@
 //! Which step is next.
 
+use crate::rows::is_reached;
 use crate::steps::dice::Dice;
 use crate::steps::events::pulsed_process;
 use crate::steps::paths::next_mount_path;
@@ -262,13 +263,13 @@ fn answered_thread(dice: &mut Dice, plain: &Plain) -> Thread {
 
 /// One of the first threads that wait in a pipe or at a device, if there are so many.
 pub fn waiting_thread(dice: &mut Dice, plain: &Plain) -> Option<Thread> {
-    let place = usize::from(dice.below(8));
-    plain
-        .threads()
-        .iter()
-        .filter(|row| matches!(&row.state, State::Waiting { .. }))
-        .nth(place)
-        .map(|row| row.thread)
+    let mut left = usize::from(dice.below(8));
+    for row in plain.threads().iter() {
+        if matches!(&row.state, State::Waiting { .. }) && is_reached(&mut left) {
+            return Some(row.thread);
+        }
+    }
+    None
 }
 
 /// Now and then the thread of a pulse that a worker holds, so that it goes on while the pulse is held, or one beside a

@@ -29,14 +29,18 @@ fn is_lasting(proc: Proc) -> bool {
 }
 
 fn next_process(dice: &mut Dice, plain: &Plain) -> Proc {
-    let found = match dice.below(8) {
-        0 | 1 => plain.hand(any_worker(dice)).map(|post| post.proc()),
-        2 => waiting_thread(dice, plain).map(|thread| thread.proc),
-        3 => pulsed_process(dice, plain),
-        _ => None,
-    };
-    match found {
+    match busy_process(dice, plain) {
         Some(proc) => proc,
         None => next_thread(dice).proc,
+    }
+}
+
+/// Half of the times a process of which a worker holds something, which waits or which has a pulse, where one is found.
+fn busy_process(dice: &mut Dice, plain: &Plain) -> Option<Proc> {
+    match dice.below(8) {
+        0 | 1 => Some(plain.hand(any_worker(dice))?.proc()),
+        2 => Some(waiting_thread(dice, plain)?.proc),
+        3 => pulsed_process(dice, plain),
+        _ => None,
     }
 }

@@ -18,12 +18,22 @@ const READER: u8 = 4;
 
 /// Where nothing is left of guests that have ended, one may end: with its calls that wait, most often.
 pub fn next_guest(alloc: Global, dice: &mut Dice, plain: &Plain) -> Result<Step, AllocError> {
-    if !plain.ended().iter().any(|proc| proc.user == VISITOR)
+    if !has_ended_guest(plain)
         && let Some(proc) = last_process(dice, plain)
     {
         return Ok(Step::Exit { proc });
     }
     next_of_guest(alloc, dice, plain)
+}
+
+/// Whether something is left of a guest that has ended.
+fn has_ended_guest(plain: &Plain) -> bool {
+    for proc in plain.ended().iter() {
+        if proc.user == VISITOR {
+            return true;
+        }
+    }
+    false
 }
 
 /// A guest that is to do no more: one whose calls keep those of others waiting, the sooner where a worker holds a pulse for
@@ -81,20 +91,22 @@ fn any_thread(dice: &mut Dice) -> Thread {
 /// Of a guest: a call, or one that takes its answer or is interrupted. While it is blocked workers go on most often.
 fn next_of_guest(alloc: Global, dice: &mut Dice, plain: &Plain) -> Result<Step, AllocError> {
     let thread = next_thread(dice, plain);
-    match plain.row(thread).map(|row| &row.state) {
-        None if plain.has_ended(thread.proc) => next_late(alloc, dice, thread),
-        None => Ok(Step::Spawn {
+    let Some(row) = plain.row(thread) else {
+        if plain.has_ended(thread.proc) {
+            return next_late(alloc, dice, thread);
+        }
+        return Ok(Step::Spawn {
             user: VISITOR,
             threads: 4,
             prio: Prio(1 + 15 * dice.below(5)),
-        }),
-        Some(State::Ready) => next_call(alloc, dice, plain, thread),
-        Some(State::Answered(_)) => Ok(Step::TakeReply { thread }),
-        Some(State::Taken(_) | State::Waiting { .. }) if dice.one_in(4) => {
-            Ok(Step::Interrupt { thread })
-        }
-        Some(_) if dice.one_in(2) => Ok(next_receive(dice, plain)),
-        Some(_) => Ok(next_perform(dice, plain)),
+        });
+    };
+    match &row.state {
+        State::Ready => next_call(alloc, dice, plain, thread),
+        State::Answered(_) => Ok(Step::TakeReply { thread }),
+        State::Taken(_) | State::Waiting { .. } if dice.one_in(4) => Ok(Step::Interrupt { thread }),
+        _ if dice.one_in(2) => Ok(next_receive(dice, plain)),
+        _ => Ok(next_perform(dice, plain)),
     }
 }
 
@@ -148,10 +160,13 @@ fn path_in(alloc: Global, number: u8, rest: &[u8]) -> Result<Bytes, AllocError> 
 
 /// The number of a manager that the guests have not mounted yet.
 fn unmounted(plain: &Plain) -> Option<u8> {
-    (1..MANAGERS)
-        .zip(0..)
-        .find(|(_, place)| plain.pipe_mount(VISITOR, *place).is_none())
-        .map(|(number, _)| number)
+    for number in 1..MANAGERS {
+        let mount = plain.pipe_mount(VISITOR, usize::from(number - 1));
+        if mount.is_none() {
+            return Some(number);
+        }
+    }
+    None
 }
 
 /// A call over a connection to a pipe or a device, or one that opens one where the process has few; but first of all the

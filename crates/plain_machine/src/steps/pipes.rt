@@ -92,8 +92,12 @@ pub fn next_waiting(
 
 /// Whether a thread of a process waits in a pipe or at a device.
 pub fn has_waiting(plain: &Plain, proc: Proc) -> bool {
-    plain.threads().iter().any(|row| row.thread.proc == proc
-        && matches!(&row.state, State::Waiting { .. }))
+    for row in plain.threads().iter() {
+        if row.thread.proc == proc && matches!(&row.state, State::Waiting { .. }) {
+            return true;
+        }
+    }
+    false
 }
 
 fn open_pipe(

@@ -1,5 +1,6 @@
 //! Visits, by which a user comes to have as many server connections as may be, of which nearly all are leaving.
 
+use crate::rows::is_reached;
 use crate::steps::dice::Dice;
 use crate::{Plain, Row, State};
 use qx_types::{Bytes, Prio, Request, Step, User};
@@ -42,9 +43,11 @@ pub fn next_visit(alloc: Global, dice: &mut Dice, plain: &Plain) -> Result<Step,
 
 /// One of the threads that visit, by its place among them.
 fn visitor(plain: &Plain, place: usize) -> Option<&Row> {
-    plain
-        .threads()
-        .iter()
-        .filter(|row| row.thread.proc.user == VISITOR)
-        .nth(place)
+    let mut left = place;
+    for row in plain.threads().iter() {
+        if row.thread.proc.user == VISITOR && is_reached(&mut left) {
+            return Some(row);
+        }
+    }
+    None
 }

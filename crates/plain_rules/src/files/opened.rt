@@ -1,7 +1,7 @@
 //! What is asked of open blocks: read and write of files, seek, list, chmod, fstat, dup and close; and how a block goes.
 
 use crate::files::fault::Fault;
-use crate::files::rows::{Block, Content, Files, Inode};
+use crate::files::rows::{Block, Content, Files, Inode, Name};
 use crate::files::walk::name_in;
 use crate::pipes::Answers;
 use qx_types::{Errno, LimitName, OFlags, User};
@@ -124,11 +124,7 @@ impl Files {
     /// The names in a directory, in any order.
     fn names_of(&self, user: User, directory: u16) -> Result<Vec<&[u8]>, AllocError> {
         let mut names = Vec::new(self.alloc);
-        let here = self
-            .names
-            .iter()
-            .find(|name| name.user == user && name.inode == directory);
-        let (root, path) = match here {
+        let (root, path) = match self.name_of(user, directory) {
             Some(name) => (name.root, name.path.as_slice()),
             None => (directory, [].as_slice()),
         };
@@ -141,6 +137,16 @@ impl Files {
             }
         }
         Ok(names)
+    }
+
+    /// The first row whose path leads to an inode.
+    fn name_of(&self, user: User, inode: u16) -> Option<&Name> {
+        for name in self.names.iter() {
+            if name.user == user && name.inode == inode {
+                return Some(name);
+            }
+        }
+        None
     }
 
     /// Gives what is open another mode, unless it is the root of the user's top.
@@ -192,8 +198,13 @@ impl Files {
             return Ok(Vec::new(self.alloc));
         };
         let inode = row.inode;
-        self.blocks
-            .retain(|row| row.user != user || row.number != number);
+        for place in (0..self.blocks.len()).rev() {
+            if let Some(row) = self.blocks.get(place)
+                && row.is(user, number)
+            {
+                let _ = self.blocks.remove(place);
+            }
+        }
         let answers = self.release(user, inode, number, moment)?;
         self.events.disarm(user, number);
         self.let_go(user, inode);

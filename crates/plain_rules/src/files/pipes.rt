@@ -108,13 +108,15 @@ impl Files {
 
     /// A process of a user without whose calls the write of another one would go into a pipe.
     pub fn blocking_process(&self, user: User) -> Option<Proc> {
-        self.inodes
-            .iter()
-            .filter_map(|inode| match &inode.content {
-                Content::Pipe(pipe) if inode.user == user => pipe.blocking_process(),
-                _ => None,
-            })
-            .next()
+        for inode in self.inodes.iter() {
+            if inode.user == user
+                && let Content::Pipe(pipe) = &inode.content
+                && let Some(proc) = pipe.blocking_process()
+            {
+                return Some(proc);
+            }
+        }
+        None
     }
 
     /// Whether calls of ended processes wait in the pipe that a block has open.
@@ -144,24 +146,32 @@ impl Files {
         let Content::Pipe(pipe) = &inode.content else {
             return None;
         };
-        let has_other = self.blocks.iter().any(|other| other.user == user
-            && other.inode == opened.inode
-            && other.number != block
-            && (opened.has(OFlags::READ) && other.has(OFlags::READ)
-                || opened.has(OFlags::WRITE) && other.has(OFlags::WRITE)));
+        let mut is_last = true;
+        for other in self.blocks.iter() {
+            if other.opens(user, opened.inode)
+                && other.number != block
+                && (opened.has(OFlags::READ) && other.has(OFlags::READ)
+                    || opened.has(OFlags::WRITE) && other.has(OFlags::WRITE))
+            {
+                is_last = false;
+            }
+        }
         Some(PipeLook {
             for_reading: opened.has(OFlags::READ),
             for_writing: opened.has(OFlags::WRITE),
-            is_last: !has_other,
+            is_last,
             bytes: pipe.len(),
         })
     }
 
     /// Whether a block of an inode was opened with this flag.
     pub fn is_open(&self, user: User, number: u16, flag: OFlags) -> bool {
-        self.blocks.iter().any(|block| block.user == user
-            && block.inode == number
-            && block.has(flag))
+        for block in self.blocks.iter() {
+            if block.opens(user, number) && block.has(flag) {
+                return true;
+            }
+        }
+        false
     }
 }
 

@@ -66,6 +66,16 @@ pub struct Block {
 }
 
 impl Block {
+    /// Whether it is the user's block of that number.
+    pub fn is(&self, user: User, number: u16) -> bool {
+        self.user == user && self.number == number
+    }
+
+    /// Whether it has the user's inode of that number open.
+    pub fn opens(&self, user: User, number: u16) -> bool {
+        self.user == user && self.inode == number
+    }
+
     /// Whether it was opened with this flag.
     pub fn has(&self, flag: OFlags) -> bool {
         has(self.flags, flag)
@@ -150,22 +160,24 @@ impl Files {
 
     /// The lowest number that no inode of the user has.
     pub fn free_inode(&self, user: User) -> Result<u16, Errno> {
-        match (1..=1_024).find(|number| self.inode(user, *number).is_none()) {
-            Some(number) if usize::from(number) <= self.limit(user, LimitName::Inodes) => {
-                Ok(number)
+        let most = self.limit(user, LimitName::Inodes);
+        for number in 1..=1_024 {
+            if usize::from(number) <= most && self.inode(user, number).is_none() {
+                return Ok(number);
             }
-            _ => Err(Errno::ENOSPC),
         }
+        Err(Errno::ENOSPC)
     }
 
     /// The lowest number that no block of the user has.
     pub fn free_block(&self, user: User) -> Result<u16, Errno> {
-        match (1..=256).find(|number| self.block(user, *number).is_none()) {
-            Some(number) if usize::from(number) <= self.limit(user, LimitName::Blocks) => {
-                Ok(number)
+        let most = self.limit(user, LimitName::Blocks);
+        for number in 1..=256 {
+            if usize::from(number) <= most && self.block(user, number).is_none() {
+                return Ok(number);
             }
-            _ => Err(Errno::ENFILE),
         }
+        Err(Errno::ENFILE)
     }
 
     /// The blocks of a server connection, in order of opening.
@@ -181,7 +193,12 @@ impl Files {
 
     /// Whether a server connection has blocks.
     pub fn has_blocks(&self, server: ServerName) -> bool {
-        self.blocks.iter().any(|block| block.server == server)
+        for block in self.blocks.iter() {
+            if block.server == server {
+                return true;
+            }
+        }
+        false
     }
 
     /// Whether a user can have no further block.
@@ -208,39 +225,55 @@ impl Files {
     }
 
     pub fn inode(&self, user: User, number: u16) -> Option<&Inode> {
-        self.inodes
-            .iter()
-            .find(|inode| inode.user == user && inode.number == number)
+        for inode in self.inodes.iter() {
+            if inode.is(user, number) {
+                return Some(inode);
+            }
+        }
+        None
     }
 
     pub fn inode_mut(&mut self, user: User, number: u16) -> Option<&mut Inode> {
-        self.inodes
-            .iter_mut()
-            .find(|inode| inode.user == user && inode.number == number)
+        for inode in self.inodes.iter_mut() {
+            if inode.is(user, number) {
+                return Some(inode);
+            }
+        }
+        None
     }
 
     pub fn block(&self, user: User, number: u16) -> Option<&Block> {
-        self.blocks
-            .iter()
-            .find(|block| block.user == user && block.number == number)
+        for block in self.blocks.iter() {
+            if block.is(user, number) {
+                return Some(block);
+            }
+        }
+        None
     }
 
     pub fn block_mut(&mut self, user: User, number: u16) -> Option<&mut Block> {
-        self.blocks
-            .iter_mut()
-            .find(|block| block.user == user && block.number == number)
+        for block in self.blocks.iter_mut() {
+            if block.is(user, number) {
+                return Some(block);
+            }
+        }
+        None
     }
 
     /// An inode goes, with what it holds, if no path leads to it and no block is open.
     pub fn let_go(&mut self, user: User, number: u16) {
-        let is_open = self
-            .blocks
-            .iter()
-            .any(|block| block.user == user && block.inode == number);
-        if !is_open {
-            self.inodes.retain(|inode| inode.user != user
-                || inode.number != number
-                || inode.is_named);
+        for block in self.blocks.iter() {
+            if block.opens(user, number) {
+                return;
+            }
+        }
+        for place in (0..self.inodes.len()).rev() {
+            if let Some(inode) = self.inodes.get(place)
+                && inode.is(user, number)
+                && !inode.is_named
+            {
+                let _ = self.inodes.remove(place);
+            }
         }
     }
 
@@ -259,6 +292,11 @@ impl Files {
 }
 
 impl Inode {
+    /// Whether it is the user's inode of that number.
+    fn is(&self, user: User, number: u16) -> bool {
+        self.user == user && self.number == number
+    }
+
     pub fn is_directory(&self) -> bool {
         matches!(&self.content, Content::Directory)
     }

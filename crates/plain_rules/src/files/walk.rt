@@ -217,13 +217,24 @@ impl Files {
 
     /// Whether a path of something leads through what is at this one.
     fn has_names(&self, place: &Place<'_>) -> bool {
-        self.names.iter().any(|name| is_of_mount(name, place)
-            && name_in(name, place.path).is_some())
+        for name in self.names.iter() {
+            if is_of_mount(name, place) && name_in(name, place.path).is_some() {
+                return true;
+            }
+        }
+        false
     }
 
     /// A path leads to an inode no longer, which goes where nothing has it open.
     fn remove_name(&mut self, place: &Place<'_>, number: u16) {
-        self.names.retain(|name| !is_of_mount(name, place) || name.path.as_slice() != place.path);
+        for row in (0..self.names.len()).rev() {
+            if let Some(name) = self.names.get(row)
+                && is_of_mount(name, place)
+                && name.path.as_slice() == place.path
+            {
+                let _ = self.names.remove(row);
+            }
+        }
         if let Some(inode) = self.inode_mut(place.user, number) {
             inode.is_named = false;
             inode.changed = place.moment;
@@ -272,13 +283,18 @@ impl Files {
         match self.inode(place.user, directory) {
             Some(inode) if !inode.is_directory() => Err(Errno::ENOTDIR),
             Some(inode) if !inode.allows(SEARCH) => Err(Errno::EACCES),
-            _ => Ok(
-                self.names
-                    .iter()
-                    .find(|name| is_of_mount(name, place) && name.path.as_slice() == path)
-                    .map(|name| name.inode),
-            ),
+            _ => Ok(self.inode_at(place, path)),
         }
+    }
+
+    /// The inode to which a path of the mount leads.
+    fn inode_at(&self, place: &Place<'_>, path: &[u8]) -> Option<u16> {
+        for name in self.names.iter() {
+            if is_of_mount(name, place) && name.path.as_slice() == path {
+                return Some(name.inode);
+            }
+        }
+        None
     }
 
     /// Whether names may be made in a directory, and removed from it.
