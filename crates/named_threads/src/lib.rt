@@ -11,7 +11,7 @@ pub fn named(alloc: Global, kind: &str, number: u16) -> Result<Builder, AllocErr
     Ok(Builder::new().name(format!(in alloc; "{kind} {number}")?))
 }
 
-/// Waits for threads, and gives what they return, in their order.
+/// Waits for threads, and gives what they return.
 pub fn joined<T: Send + Drop, R: Threads>(
     rt: &R,
     alloc: Global,

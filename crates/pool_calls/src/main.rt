@@ -7,7 +7,8 @@
 //!
 //! Or these words stand behind `service` or `tied`, and one of the services alone is called. Or the words are `rounds` and their
 //! number: so many rounds of two threads and a lock are timed, and as many of a world and no lock, and then as many calls of each of
-//! 1 to 8 clients, on 1, 2 and 4 workers, of a pool and of both services; and each of the calls of 8 clients on 4 workers.
+//! 1 to 8 clients, on 1, 2 and 4 workers, of a pool and of both services, over and over; and each of the calls of 8 clients on 4
+//! workers.
 //!
 //! - `pool.rt`: the server, and its threads from their start to their end
 //! - `client.rt`: what a client does, and what the driver does
@@ -15,6 +16,7 @@
 //! - `answers.rt`: what a client was told, and what its notes say that it was told
 //! - `serving.rt`: the workers' gate and their clock
 //! - `rounds.rt`: rounds of two threads and a lock, and of a world and no lock
+//! - `cells.rt`: how many calls a second are answered
 //!
 //! What is printed with no words does not hang on which thread comes first. The program ends with status 1 where the trace is
 //! not what all seats noted, where a client was told something else than its notes say, and where a user received something
@@ -23,15 +25,16 @@
 
 mod answers;
 mod calls;
+mod cells;
 mod client;
 mod pool;
 mod rounds;
 mod serving;
 
 use anyhow::{bail, ensure};
+use cells::time_cells;
 use client::{Calls, Part};
 use pool::{Run, run_pool, run_service, run_tied};
-use qx_machine::Seen;
 use qx_types::{Bytes, Config, User};
 use qx_world::Traced;
 use std::alloc::{AllocError, Global};
@@ -151,14 +154,9 @@ impl Plan {
     }
 }
 
-/// How many calls a second were answered.
-fn rate_of<E: Drop>(run: &Run<E>) -> u128 {
-    u128::from(run.calls) * 1_000_000_000 / run.nanos.max(1)
-}
-
 /// Prints how long a run took.
 fn tell_rate<E: Drop>(rt: &HostRuntime, run: &Run<E>) -> anyhow::Result<()> {
-    let (milliseconds, rate) = (run.nanos / 1_000_000, rate_of(run));
+    let (milliseconds, rate) = (run.nanos / 1_000_000, run.rate());
     println!(rt; "{milliseconds} milliseconds, {rate} calls a second")?;
     Ok(())
 }
@@ -176,18 +174,7 @@ fn time_rounds<R: Threads + Wait + Clock + Print + Sync>(
     let plan = Plan::of_status(1, 1, calls, false);
     let round = rounds::time_world(rt, alloc, config_of(alloc, &plan)?, calls)? / most;
     println!(rt; "a world and no lock: {round} nanoseconds a round")?;
-    println!(rt;
-        "clients, workers: calls a second of a pool, of a service, of one with known seats"
-    )?;
-    for clients in [1, 2, 4, 8] {
-        for workers in [1, 2, 4] {
-            let plan = Plan::of_status(workers, clients, calls, false);
-            let pool = rate_of(&pool_of(rt, alloc, &plan)?);
-            let service = rate_of(&service_of(rt, alloc, &plan)?);
-            let tied = rate_of(&tied_of(rt, alloc, &plan)?);
-            println!(rt; "{clients}, {workers}: {pool}, {service}, {tied}")?;
-        }
-    }
+    time_cells(rt, alloc, calls)?;
     let times = service_of(rt, alloc, &Plan::of_status(4, 8, calls, true))?.times;
     println!(rt;
         "8 clients, 4 workers, a service: half within {} nanoseconds, 99 in 100 within {}, 999 in 1000 within {}",
@@ -320,18 +307,8 @@ fn compare_user(traced: &Traced, user: User) -> anyhow::Result<()> {
         bail!("out of memory");
     };
     ensure!(
-        !whole.is_empty() && are_same(&whole, &own),
+        !whole.is_empty() && whole == own,
         "{user:?} received something else in the trace of its own steps, or nothing"
     );
     Ok(())
-}
-
-/// Whether the same was received by the same processes and threads.
-fn are_same(whole: &[Seen], own: &[Seen]) -> bool {
-    for (one, other) in whole.iter().zip(own.iter()) {
-        if one.actor != other.actor || one.outcome != other.outcome {
-            return false;
-        }
-    }
-    whole.len() == own.len()
 }

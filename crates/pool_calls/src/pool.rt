@@ -221,6 +221,11 @@ impl<E: Drop> Run<E> {
         self.times.merge(&played.times);
     }
 
+    /// How many calls a second were answered.
+    pub fn rate(&self) -> u128 {
+        u128::from(self.calls) * 1_000_000_000 / self.nanos.max(1)
+    }
+
     /// The same, that came to this.
     fn with<F: Drop>(self, end: F) -> Run<F> {
         let Run {
