@@ -1,7 +1,13 @@
 //! One lock, and where threads sleep.
 
-ghost use Rattle.std.specs.Prelude.{◌≡◌, IfOk, vec_len};
-ghost use Rattle.qx_monitor.specs.declared.waits.TheConstants.{THREADS};
+ghost use Rattle.std.specs.Prelude.{◌≡◌, ◌&&◌, ℕ, false, true, not};
+ghost use Rattle.qx_types.specs.declared.names.Thread.{Thread};
+ghost use Rattle.qx_monitor.specs.Awaits.{is_to_come, looking_after, woken};
+ghost use Rattle.qx_monitor.specs.Waits.{is_awaited};
+ghost use Rattle.qx_monitor.specs.declared.spinner.Begun.{Begun};
+ghost use Rattle.qx_monitor.specs.declared.waits.Awaited.{Awaited};
+ghost use Rattle.qx_monitor.specs.declared.waits.Coming.{Coming};
+ghost use Rattle.qx_monitor.specs.declared.waits.Waiting.{Waiting};
 
 use crate::locked::Locked;
 use crate::spinner::{Begun, LOCK_TRIES, Spinner, pause};
@@ -43,6 +49,7 @@ impl Model for Bells {
 }
 
 impl Bells {
+    /// All of them, at which no thread sleeps. Memory for them is the one thing that a server wants beside what lies under its lock.
     pub fn new(alloc: Global) -> Result<Bells, AllocError> {
         let mut each = Vec::new(alloc);
         'making: for _number in 0..THREADS {
@@ -98,7 +105,13 @@ impl<S: UnderLock> Monitor<S> {
     }
 
     /// A thread begins to wait for this, under the lock.
-    pub fn begin(&self, locked: &mut Locked<S>, awaited: Awaited) -> Begun {
+    pub fn begin(&self, locked: &mut Locked<S>, awaited: Awaited) -> Begun
+        ensures there { result ≡ Begun.There → (not locked.old.is_stopped && is_to_come (S.world_of locked.old.under) awaited) ≡ false }
+        ensures answer { (thread : Thread) (seen : ℕ) → awaited ≡ Awaited.OfThread Coming.Answer thread → result ≡ Begun.Seen seen → is_awaited locked.new.answers thread ≡ true }
+        ensures pulse { (thread : Thread) (seen : ℕ) → awaited ≡ Awaited.OfThread Coming.Pulse thread → result ≡ Begun.Seen seen → is_awaited locked.new.pulses thread ≡ true }
+        ensures looking { locked.new.looking ≡ looking_after Waiting.Begins awaited locked.old.looking }
+        ensures under { locked.new.under ≡ locked.old.under }
+    {
         if locked.waits_for(awaited, Waiting::Begins) {
             Begun::Seen(self.watched(awaited).notifications())
         } else {
@@ -107,7 +120,11 @@ impl<S: UnderLock> Monitor<S> {
     }
 
     /// A worker begins to wait for an item, under the lock, if it is free.
-    pub fn look(&self, locked: &mut Locked<S>, is_free: bool) -> Option<Begun> {
+    pub fn look(&self, locked: &mut Locked<S>, is_free: bool) -> Option<Begun>
+        ensures under { locked.new.under ≡ locked.old.under }
+        ensures begins { is_free ≡ true → locked.new.looking ≡ looking_after Waiting.Begins Awaited.Item locked.old.looking }
+        ensures same { is_free ≡ false → locked.new ≡ locked.old }
+    {
         if is_free {
             Some(self.begin(locked, Awaited::Item))
         } else {
@@ -178,7 +195,9 @@ impl<S: UnderLock> Monitor<S> {
 
     /// Which worker is woken as the lock is let go. One that looks for an item is told so under the lock: told later it might have
     /// begun to look for the next one.
-    pub fn woken(&self, locked: &Locked<S>) -> Woken {
+    pub fn woken(&self, locked: &Locked<S>) -> Woken
+        ensures { result ≡ woken (S.world_of locked.now.under) locked.now.looking }
+    {
         let woken = locked.woken();
         if let Woken::Looking = woken {
             self.looks.notify_one();

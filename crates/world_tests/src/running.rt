@@ -58,9 +58,7 @@ fn ran_on(rt: &impl Abort, alloc: Global, room: usize, lines: &str) -> Result<Ru
 fn are_last(recorded: &[Recorded], entries: &[Entry], skipped: usize) -> bool {
     for (place, recorded) in recorded.iter().enumerate() {
         match entries.get(skipped.saturating_add(place)) {
-            Some(entry)
-                if recorded.entry.step == entry.step && recorded.entry.outcome == entry.outcome =>
-                {}
+            Some(entry) if recorded.entry == *entry => {}
             _ => return false,
         }
     }
