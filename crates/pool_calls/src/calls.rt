@@ -3,7 +3,7 @@
 ghost use Rattle.std.specs.Prelude.{◌≡◌, true, IfOk};
 ghost use Rattle.qx_types.specs.Step.{is_client_step};
 
-use plain_machine::steps::Dice;
+use crate::dice::Dice;
 use qx_types::{
     Bytes, Coid, Conds, Manager, NotifyAction, OFlags, Prio, Proc, Request, Step, Thread, User,
     Whence,

@@ -5,8 +5,8 @@ ghost use Rattle.qx_types.specs.Step.{is_client_step};
 
 use crate::answers::Told;
 use crate::calls::{next_request, next_step, path_of};
+use crate::dice::Dice;
 use latencies::Latencies;
-use plain_machine::steps::Dice;
 use qx_pool::{CallEnd, ClientOf, ServerOf, UnderLock};
 use qx_types::{Coid, Manager, NoMemory, OFlags, Outcome, Prio, Proc, Request, Step, Thread, User};
 use std::alloc::Global;

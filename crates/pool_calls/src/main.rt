@@ -13,6 +13,7 @@
 //! - `pool.rt`: the server, and its threads from their start to their end
 //! - `client.rt`: what a client does, and what the driver does
 //! - `calls.rt`: which calls and other steps are chosen
+//! - `dice.rt`: the pseudo-random numbers that choose them
 //! - `answers.rt`: what a client was told, and what its notes say that it was told
 //! - `serving.rt`: the workers' gate and their clock
 //! - `rounds.rt`: rounds of two threads and a lock, and of a world and no lock
@@ -27,6 +28,7 @@ mod answers;
 mod calls;
 mod cells;
 mod client;
+mod dice;
 mod pool;
 mod rounds;
 mod serving;

@@ -4,17 +4,14 @@
 //! name, the lines of its `show`, `erased` and `trace`, a line with the exit status, and the report where there is one. The texts
 //! were worked out from the rules of `docs/MACHINE.md`, line by line, and not taken from the program. Behind them a line
 //! tells how many users there are in all scripts together: for each of them, what an `erased` prints behind all lines of the
-//! script is what a `show` prints there, and another how many pictures of scripts were compared. The program fails at a name
-//! whose script can't be read, where there are other scripts in its folder than those that `rows` names, and where a picture
-//! that the file `pictures` names is not what stands beside its script.
+//! script is what a `show` prints there. The program fails at a name whose script can't be read, and where there are other
+//! scripts in its folder than those that `rows` names.
 #![tactic(auto)]
 
 mod erased;
-mod pictures;
 
 use anyhow::bail;
 use erased::users_received;
-use pictures::compare_pictures;
 use qx_sh::ending::report;
 use qx_sh::limit::Options;
 use qx_sh::run::run;
@@ -31,8 +28,6 @@ fn main(rt: HostRuntime) -> anyhow::Result<()> {
         users = users.saturating_add(u32::from(run_row(&rt, name)?));
     }
     println!(rt; "{users} users received what they receive in the traces of their own steps")?;
-    let pictures = compare_pictures(&rt)?;
-    println!(rt; "{pictures} pictures are those of their scripts")?;
     Ok(())
 }
 
