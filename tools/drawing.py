@@ -323,7 +323,7 @@ def picture(run, user=None, own=None, rows=()):
     body = [box("own", NOBODY, (MARGIN - 8, height_of(row) - BAND), (right + 8, height_of(row) + BAND)) for row in rows]
     body += [words("title", MARGIN, TITLE, "the whole run"), *steps_of(run, numbers, left), *whole.elements()]
     if beside:
-        body += own_steps(whole, beside, run.names[user])
+        body += own_steps(whole, beside, user)
     bottom = height_of(end) + 16
     for sign, x, y in placed_signs(right, bottom, SIGNS if beside else SIGNS[:-1]):
         body.append(drawn_sign(sign, x, y))

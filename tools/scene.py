@@ -14,8 +14,9 @@ Run = namedtuple("Run", "names managers workers steps")
 # interrupted; and the state behind it.
 Step = namedtuple("Step", "text outcome owner actor drawn worker asked interrupted state")
 
-# The state of the machine: of each manager the items of its line, the first one first; what each worker holds; of each thread
-# that is there `ready`, `waiting`, `reply` or `error`, as it has such an answer; and the processes that have a pulse.
+# The state of the machine: of each manager the items of its line, the first one first; what each worker holds; what each thread
+# that is there does, `ready`, `queued` (its message stands in a line), `taken` (it was received), or `reply` or `error`, as it
+# has such an answer; and the processes that have a pulse.
 State = namedtuple("State", "lines hands threads pulses")
 
 # What stands in a line or is held: `message`, `unblock` or `disconnect`, whose it is, and the priority that it has in a line.
@@ -25,8 +26,7 @@ Standing = namedtuple("Standing", "item priority")
 # A place: `client` or `worker` with the number of its lane, or `line` with its manager's number and the place in it, from 0.
 Place = namedtuple("Place", "kind lane place", defaults=[0])
 
-# What stood in a place, from which row to which. Of a client it is what its thread did: `ready`, `queued` (its message stood
-# in a line), `taken` (it was received) or `answered`.
+# What stood in a place, from which row to which. Of a client it is what its thread did; `answered` stands for both answers.
 Bar = namedtuple("Bar", "place content first last")
 
 # What went along an arrow: `sent`, `took`, `reply`, `error` or `pulse`. Arrows of one row that differ have tracks of their own.
@@ -60,11 +60,7 @@ def look_at(state, lane):
     if len(lane) == 2:
         return "ready" if any(thread[:2] == lane for thread in state.threads) else None
     doing = state.threads.get(lane)
-    if doing in ("reply", "error"):
-        return "answered"
-    if doing == "waiting":
-        return "queued" if place_of(state, Item("message", lane)) else "taken"
-    return doing
+    return "answered" if doing in ("reply", "error") else doing
 
 
 def place_of(state, item):
