@@ -19,7 +19,7 @@ Step = namedtuple("Step", "text outcome owner actor drawn worker asked interrupt
 # has such an answer; and the processes that have a pulse.
 State = namedtuple("State", "lines hands threads pulses")
 
-# What stands in a line or is held: `message`, `unblock` or `disconnect`, whose it is, and the priority that it has in a line.
+# What stands in a line or is held: `message`, `unblock` or `disconnect`, and whose it is; that with its priority in a line.
 Item = namedtuple("Item", "kind who")
 Standing = namedtuple("Standing", "item priority")
 
@@ -85,6 +85,7 @@ class Scene:
 
     def __init__(self, run, rows, end):
         self.clients, self.workers = client_lanes(run.steps), worker_lanes(run)
+        self.firsts = {lane_of(self.clients, lane[:2]) for lane in self.clients if len(lane) > 1}
         self.bars, self.arrows = [], []
         self.open = {}
         nothing = State([[] for _ in run.managers], {}, {}, set())
@@ -122,9 +123,7 @@ class Scene:
         target, doing = Place("client", number), look_at(after, lane)
         if doing == "answered" and look_at(before, lane) != doing:
             self.draw(row, after.threads[lane], origin, target, lane[0])
-        process = lane[:2]
-        is_first = len(lane) > 1 and lane_of(self.clients, process) == number
-        if is_first and process in after.pulses and process not in before.pulses:
+        if number in self.firsts and lane[:2] in after.pulses - before.pulses:
             self.draw(row, "pulse", origin, target, lane[0])
         self.change(target, doing, row)
 
