@@ -1,6 +1,6 @@
 //! One lock, and where threads sleep.
 
-ghost use Rattle.std.specs.Prelude.{◌≡◌, ◌&&◌, ℕ, false, true, not};
+ghost use Rattle.std.specs.Prelude.{◌≡◌, ◌&&◌, ℕ, false, is_some, true, not};
 ghost use Rattle.qx_types.specs.declared.names.Thread.{Thread};
 ghost use Rattle.qx_monitor.specs.Awaits.{is_to_come, looking_after, woken};
 ghost use Rattle.qx_monitor.specs.Waits.{is_awaited};
@@ -122,6 +122,7 @@ impl<S: UnderLock> Monitor<S> {
     /// A worker begins to wait for an item, under the lock, if it is free.
     pub fn look(&self, locked: &mut Locked<S>, is_free: bool) -> Option<Begun>
         ensures under { locked.new.under ≡ locked.old.under }
+        ensures looks { is_some result ≡ is_free }
         ensures begins { is_free ≡ true → locked.new.looking ≡ looking_after Waiting.Begins Awaited.Item locked.old.looking }
         ensures same { is_free ≡ false → locked.new ≡ locked.old }
     {
