@@ -1,5 +1,5 @@
 //! Tests of a traced world, of worker threads and of the shell through their public calls, and an example of a caller of a
-//! trace (`docs/CALLING.md`).
+//! trace (`docs/THREADS.md`).
 //!
 //! - `script.rt`, `same.rt`: the tests' steps, from lines of a script; two traces compared by all that can be seen of
 //!   them
