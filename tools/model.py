@@ -917,7 +917,8 @@ class World:
     def take(self, step):
         """Takes a step, and returns its outcome as it is printed."""
         owner = self.owner(step)
-        before = self.users[owner].conditions() if owner else {}
+        # No other step changes what a condition is of.
+        before = self.users[owner].conditions() if owner and step.word == "perform" else {}
         try:
             outcome = getattr(self, f"take_{step.word}")(*step.values)
         except Refused as error:
