@@ -48,33 +48,27 @@ SMALL = {
 # How often each kind of line comes, by the way in which a script goes on. `do` is a call of one thread that is served at once,
 # the others leave threads and workers to one another.
 WAYS = {
-    "alone": {"do": 60, "mount": 3, "spawn": 3, "pulse": 3, "exit": 1, "prio": 1},
-    "busy": {"call": 30, "receive": 9, "perform": 9, "reply": 14, "interrupt": 5, "mount": 3, "spawn": 4, "pulse": 3, "prio": 3},
-    "slow": {"call": 10, "receive": 20, "perform": 21, "reply": 12, "interrupt": 9, "mount": 1, "spawn": 2, "pulse": 3, "prio": 1},
-    "guests": {"call": 24, "receive": 16, "perform": 18, "reply": 14, "interrupt": 8, "exit": 5, "spawn": 5, "mount": 4, "pulse": 4},
-    "served": {"call": 20, "serve": 10, "reply": 14, "interrupt": 5, "exit": 2, "spawn": 3, "mount": 3, "pulse": 4, "do": 8},
+    "alone": dict(do=90, mount=2, spawn=2, pulse=3, exit=1, prio=1),
+    "busy": dict(call=40, receive=12, perform=12, reply=20, interrupt=5, mount=2, spawn=2, pulse=3, prio=3),
+    "slow": dict(call=16, receive=24, perform=26, reply=14, interrupt=7, mount=1, spawn=1, pulse=2, prio=1),
+    "guests": dict(call=36, receive=30, perform=30, reply=20, interrupt=12, exit=3, spawn=4, mount=1, pulse=4),
+    "served": dict(call=30, serve=16, reply=20, interrupt=6, exit=1, spawn=1, mount=2, pulse=3, do=10),
 }
 
-# How often each kind of call comes.
-CALLS = {
-    "open": 24,
-    "stat": 4,
-    "unlink": 6,
-    "mkdir": 5,
-    "rename": 9,
-    "read": 14,
-    "write": 14,
-    "fill": 3,
-    "close": 10,
-    "dup": 5,
-    "seek": 5,
-    "fstat": 4,
-    "list": 5,
-    "chmod": 5,
-    "notify": 12,
-    "notify64": 4,
-    "raw": 8,
+# How often each kind of call comes, by what the script is about.
+CALLS = dict(open=24, stat=4, unlink=6, mkdir=5, rename=9, read=14, write=14, fill=3, close=10, dup=5, seek=5, fstat=4)
+CALLS |= dict(list=5, chmod=5, notify=12, notify64=4, raw=8)
+TOPICS = {
+    "all": CALLS,
+    "files": CALLS | dict(read=8, write=8, mkdir=14, rename=24, stat=8, unlink=12, notify=2, notify64=1, chmod=8, list=8),
+    "pipes": CALLS | dict(open=12, mkdir=1, rename=1, seek=1, read=30, write=20, fill=16, list=2, chmod=1, raw=4),
+    "devices": CALLS | dict(open=12, mkdir=1, rename=1, seek=1, read=30, write=26, fill=3, list=2, chmod=1, raw=4),
+    "events": CALLS | dict(open=12, mkdir=1, rename=1, seek=1, read=16, write=12, fill=10, list=1, notify=40, notify64=14),
 }
+# The limits that are drawn most often.
+TIGHT = {"files": ["inodes", "file", "bytes", "blocks"], "pipes": ["servers"], "devices": ["inodes"], "events": ["events"]}
+# The managers whose mounts most paths of a topic are in.
+PLACES = {"pipes": [1], "devices": range(2, len(MANAGERS)), "events": range(1, len(MANAGERS))}
 
 ODD_PATHS = ["ann", "/", "//", "/{}/..", "/./{}", "/{}/.", "/bob", "/ann", "/nobody", "/{}/" + "a" * 64, "/{}/" + "a" * 65, "/{}/\0", "-"]
 
@@ -86,11 +80,11 @@ class Chooser:
         self.dice = random.Random(seed)
         self.steps = steps
         self.lines = []
+        self.topic = self.dice.choice(list(TOPICS))
         self.configure()
         self.player = Player(read_script("\n".join(self.lines))[0])
         self.world = self.player.world
         self.way = None
-        self.has_guests = self.one_in(2)
 
     # -- draws
 
@@ -113,7 +107,9 @@ class Chooser:
         for name in names:
             if self.one_in(2):
                 lines.append(f"ceiling {name} {dice.choice([1, 20, 127, 255])}")
-            for limit, most in SMALL.items() if self.one_in(2) else ():
+            small = TIGHT.get(self.topic, SMALL) if self.one_in(2) else SMALL if self.one_in(4) else ()
+            for limit in small:
+                most = SMALL[limit]
                 if self.one_in(2):
                     lines.append(f"limit {name} {limit} {dice.choice([dice.randint(1, most), most, LIMITS[limit]])}")
         if self.one_in(4):
@@ -124,7 +120,17 @@ class Chooser:
 
     # -- lines
 
+    def begin(self):
+        """Processes of each user, and most often mounts of all managers."""
+        for user in self.world.users.values():
+            for _ in range(self.dice.choice([1, 2, 3])):
+                self.add(f"spawn {user.name} 4 {self.priority(user)}")
+            for word in MANAGERS[1:] if not self.one_in(3) else ():
+                self.add(f"mount {user.name}.1.1 /{user.name}/{word} {word}")
+
     def script(self):
+        if not self.one_in(4):
+            self.begin()
         for number in range(self.steps):
             if number % 40 == 0:
                 self.way = WAYS[self.dice.choice(list(WAYS))]
@@ -142,7 +148,7 @@ class Chooser:
 
     def chosen_line(self):
         if not any(user.processes for user in self.world.users.values()):
-            return self.spawn()
+            return self.spawned()
         if self.one_in(80):
             return self.dice.choice(["trace", f"show {self.user().name}", f"erased {self.user().name}"])
         return getattr(self, self.weighted(self.way))()
@@ -157,7 +163,10 @@ class Chooser:
         return [thread for thread in threads if not states or thread.state in states]
 
     def any_thread(self):
-        """A thread's name, whether it is there or not."""
+        """A thread's name, whether it is there or not; most often of a process that has ended, where there is one."""
+        ended = [process for user in self.world.users.values() for process in user.processes.values() if process.has_ended]
+        if ended and not self.one_in(3):
+            return f"{self.dice.choice(ended).name}.1"
         return f"{self.user().name}.{self.dice.choice([0, 1, 1, 2, 3, 17, 255])}.{self.dice.choice([0, 1, 1, 2, 4, 5])}"
 
     def thread(self, *states):
@@ -166,6 +175,11 @@ class Chooser:
         return found, found.name if found else self.any_thread()
 
     def spawn(self):
+        if not self.one_in(4) and all(len(user.processes) > 3 for user in self.world.users.values()):
+            return self.call()
+        return self.spawned()
+
+    def spawned(self):
         user = self.user()
         threads = self.dice.choice([4, 4, 4, 1, 2, 3, 0, 5] if self.one_in(4) else [1, 2, 4])
         return f"spawn {user.name} {threads} {self.priority(user)}"
@@ -176,18 +190,37 @@ class Chooser:
         return self.dice.randint(1, min(user.ceiling, 60))
 
     def exit(self):
-        """Most often of a process of which something is waiting, held or armed."""
+        """Most often of a process that waits where another process may call, or of which a pulse is held or an event armed."""
         users = self.world.users.values()
-        held = [item.process for item in self.world.hands.values() if item]
-        held += [thread.process for thread in self.threads("waiting", "queued")]
-        held += [event.process for user in users for event in user.events]
-        living = [process for process in held if not process.has_ended]
-        if living and not self.one_in(3):
+        held = [item.process for item in self.world.hands.values() if item and item.kind == "unblock"]
+        armed = [event.process for user in users for event in user.events]
+        found = [self.blocking_processes(), self.blocking_processes(), held, armed, [thread.process for thread in self.threads("waiting")]]
+        living = [process for process in self.dice.choice(found) if not process.has_ended]
+        if living:
             return f"exit {self.dice.choice(living).name}"
-        return f"exit {self.thread()[1].rpartition('.')[0]}"
+        return f"exit {self.thread()[1].rpartition('.')[0]}" if self.one_in(3) else self.call()
+
+    def blocking_processes(self):
+        """The processes of which calls wait, or that have armed events, where another process has a block."""
+        found = []
+        for user in self.world.users.values():
+            for block in user.blocks.values():
+                waiting = user.inodes[block.inode].readers + user.inodes[block.inode].writers
+                armed = [event.process for event in user.events if user.blocks[event.block].inode == block.inode]
+                found += [process for process in [*(call.thread.process for call in waiting), *armed] if process is not block.process]
+        return found
 
     def reply(self):
-        return f"reply {self.thread('answered')[1]}"
+        """Most often of a thread for which a worker holds an unblock pulse, so that a later call comes before it."""
+        late = [thread.name for thread in self.late_threads("answered")]
+        if not late and not self.threads("answered") and not self.one_in(6):
+            return self.going_on()
+        return f"reply {self.dice.choice(late) if late and not self.one_in(3) else self.thread('answered')[1]}"
+
+    def late_threads(self, state):
+        """The threads in a state for which a worker holds an unblock pulse."""
+        held = [item.thread for item in self.world.hands.values() if item and item.kind == "unblock"]
+        return [thread for thread in held if thread.state == state and not thread.process.has_ended]
 
     def interrupt(self):
         states = self.dice.choice([["taken", "waiting"], ["waiting"], ["queued"], []])
@@ -216,14 +249,21 @@ class Chooser:
         return self.some(found, self.dice.choice([0, 1, 2, 9]))
 
     def receive(self):
+        if not any(self.world.lines) and not self.one_in(6):
+            return self.call()
         lines = [word for word, line in zip(MANAGERS, self.world.lines) if line]
         return f"receive {self.worker(False)} {self.some(lines, self.dice.choice(MANAGERS))}"
 
     def perform(self):
-        """A pulse is left to be late most often."""
-        late = [number for number, item in self.world.hands.items() if item and item.kind == "message"]
-        worker = self.dice.choice(late) if late and not self.one_in(3) else self.worker(True)
+        """A pulse is left to be late most often, and so is a message that was asked to unblock its thread."""
+        if not any(self.world.hands.values()) and not self.one_in(6):
+            return self.receive()
+        early = [number for number, item in self.world.hands.items() if item and not self.is_late(item)]
+        worker = self.dice.choice(early) if early and not self.one_in(4) else self.worker(True)
         return f"perform {worker} {self.moment()}"
+
+    def is_late(self, item):
+        return item.kind != "message" or not item.process.has_ended and item.thread.sent.is_asked
 
     def serve(self):
         return f"serve {self.moment()}"
@@ -234,16 +274,58 @@ class Chooser:
     # -- calls
 
     def do(self):
-        return f"do {self.moment()} {self.call()}"
+        line = self.call()
+        return f"do {self.moment()} {line}" if line.split()[0] in CALLS else line
 
     def call(self):
-        thread, name = self.thread("ready")
+        if not self.threads("ready") and not self.one_in(12):
+            return self.going_on()
+        left = self.calls_at_what_is_left()
+        if left and not self.one_in(3):
+            return self.dice.choice(left)
+        thread = self.calling_thread()
         if thread is None:
-            return f"fstat {name} 3" if self.one_in(2) else f"stat {name} /ann"
-        kind = self.weighted(CALLS)
-        if kind not in ("open", "stat", "unlink", "mkdir", "rename") and not thread.process.connections and not self.one_in(12):
+            return f"fstat {self.any_thread()} 3"
+        kind = self.weighted(TOPICS[self.topic])
+        if kind not in ("open", "stat", "unlink", "mkdir", "rename") and len(thread.process.connections) < 2 and not self.one_in(9):
             kind = "open"
-        return f"{kind} {name} {getattr(self, f'call_{kind}')(thread.process)}"
+        return f"{kind} {thread.name} {getattr(self, f'call_{kind}')(thread.process)}"
+
+    def going_on(self):
+        """A step that lets blocked threads go on."""
+        may = {
+            self.reply: self.threads("answered"),
+            self.perform: any(self.world.hands.values()),
+            self.receive: any(self.world.lines) and None in self.world.hands.values(),
+        }
+        found = [line for line, holds in may.items() if holds] or [self.interrupt, self.spawned]
+        return self.dice.choice(found)()
+
+    def calls_at_what_is_left(self):
+        """Calls where calls of ended processes wait or their events are armed, so that these go before the disconnect pulse."""
+        found = []
+        for user in self.world.users.values():
+            waiting = [call for inode in user.inodes.values() for call in inode.readers + inode.writers]
+            blocks = [call.block for call in waiting if call.thread.process.has_ended]
+            blocks += [event.block for event in user.events if event.process.has_ended]
+            left = {user.blocks[block].inode for block in blocks}
+            for thread in self.threads("ready") if left else ():
+                connections = thread.process.connections.items() if thread.process.user is user else ()
+                for coid, connection in connections:
+                    block = user.blocks.get(connection.block)
+                    if block and block.inode in left:
+                        calls = [("read", " 1"), ("read", " 0"), ("read", " 4096"), ("write", " -"), ("write", " 00"), ("close", "")]
+                        found += [f"{word} {thread.name} {coid}{rest}" for word, rest in calls]
+        return found
+
+    def calling_thread(self):
+        """A ready thread most often, and as often as another one for which a worker holds an unblock pulse."""
+        late = self.late_threads("ready")
+        if late and not self.one_in(3):
+            return self.dice.choice(late)
+        ready = self.threads("ready")
+        able = [thread for thread in ready if len(thread.process.connections) > 1]
+        return self.some(able if able and not self.one_in(4) else ready, self.some(self.threads(), None))
 
     def flags(self, flags):
         letters = [letter for place, letter in enumerate(FLAG_LETTERS) if flags >> place & 1]
@@ -255,14 +337,14 @@ class Chooser:
         if self.one_in(12):
             return f"/{user.name} r 000"
         access = self.dice.choice(["r", "w", "rw", "rw", "r", "w", ""] if self.one_in(6) else ["r", "w", "rw"])
-        making = self.dice.choices(["c", "", "cx", "x"], [10, 4, 1, 1])[0]
-        more = self.dice.choices(["", "a", "t", "n", "tn", "at"], [14, 2, 2, 3, 1, 1])[0]
+        making = self.dice.choices(["c", "", "cx", "x"], [20, 3, 1, 1])[0]
+        more = self.dice.choices(["", "a", "t", "n", "tn", "at"], [20, 2, 2, 2, 1, 1])[0]
         letters = list(access + making + more) or ["c"]
         self.dice.shuffle(letters)
         return f"{self.path(user)} {''.join(letters)} {self.mode()}"
 
     def mode(self):
-        return "700" if self.one_in(2) else self.dice.choice("000 077 400 200 100 500 600 300 777".split())
+        return self.dice.choice(["700", "600", "777"]) if not self.one_in(6) else self.dice.choice("000 077 400 200 100 500 600 300 777".split())
 
     def call_stat(self, process):
         return self.path(process.user)
@@ -284,6 +366,9 @@ class Chooser:
         """A path: of what is there, beside or below it, of a mount, or an odd one."""
         if self.one_in(20):
             return self.odd_path(user)
+        mounts = [mount for mount in user.mounts if mount.manager in PLACES.get(self.topic, ())]
+        if mounts and not self.one_in(4):
+            return f"/{'/'.join(self.dice.choice(mounts).prefix)}/{self.dice.choice('aaab')}"
         known = self.known_paths(user)
         path = self.dice.choice(known)
         way = self.dice.randrange(10)
@@ -329,16 +414,17 @@ class Chooser:
         block = process.user.blocks.get(connection.block) if connection else None
         return process.user.inodes[block.inode] if block else None
 
-    def waiting_kinds(self):
-        return self.dice.choice([(), (FILE,), (PIPE, DEVICE), (PIPE, DEVICE)])
+    def data_kinds(self):
+        kinds = [(FILE,), (PIPE, DEVICE)] if self.topic in ("all", "files") else [(PIPE, DEVICE)]
+        return () if self.one_in(8) else self.dice.choice(kinds)
 
     def call_read(self, process):
-        coid = self.coid(process, *self.waiting_kinds(), flag=0 if self.one_in(8) else READ)
+        coid = self.coid(process, *self.data_kinds(), flag=0 if self.one_in(8) else READ)
         count = self.dice.choices([1, self.dice.randrange(100), 0, 4_096, 4_097, 2**32 - 1], [8, 8, 2, 6, 1, 1])[0]
         return f"{coid} {count}"
 
     def call_write(self, process):
-        coid = self.coid(process, *self.waiting_kinds(), flag=0 if self.one_in(8) else WRITE)
+        coid = self.coid(process, *self.data_kinds(), flag=0 if self.one_in(8) else WRITE)
         inode = self.inode_of(process, coid)
         if inode is not None and inode.device == "pump" and not self.one_in(4):
             return f"{coid} {self.dice.choice('00 00 00 03 04 05 010100 010200 020300 020800 06 020000'.split())}"
