@@ -85,6 +85,7 @@ class Chooser:
         self.player = Player(read_script("\n".join(self.lines))[0])
         self.world = self.player.world
         self.way = None
+        self.coming = []
 
     # -- draws
 
@@ -134,7 +135,9 @@ class Chooser:
         for number in range(self.steps):
             if number % 40 == 0:
                 self.way = WAYS[self.dice.choice(list(WAYS))]
-            self.add(self.chosen_line())
+            if self.one_in(40):
+                self.scene()
+            self.add(self.next_of_scene() or self.chosen_line())
             if self.one_in(60):
                 self.lines.append(self.dice.choice(["", "# a comment"]))
         for name in self.world.users:
@@ -270,6 +273,68 @@ class Chooser:
 
     def moment(self):
         return 2**64 - 1 if self.one_in(200) else self.dice.randrange(200)
+
+    # -- scenes
+
+    def scene(self):
+        """The lines of a scene: of two processes at a pipe or a device one waits, and one of both ends."""
+        user = self.user()
+        mounts = [mount for mount in user.mounts if mount.manager]
+        living = [process for process in user.processes.values() if not process.has_ended]
+        if not mounts or len(living) < 2:
+            return
+        one, other = self.dice.sample(living, 2)
+        mount = self.dice.choice(mounts)
+        path = f"/{'/'.join(mount.prefix)}/{self.letter()}"
+        flags = self.dice.choice([("r", "w"), ("w", "r"), ("rw", "rw"), ("w", "rw"), ("r", "rw")])
+        lines = [self.opening(process, path, letters) for process, letters in zip((one, other), flags)]
+        if self.one_in(3):
+            lines.append(lambda: self.over(one, path, "do 1 notify", "tranarm io 1 1"))
+        waits = ["do 2 read", "1"] if flags[0] == "r" else ["do 2 fill", "4096 61"]
+        lines += [lambda: self.over(one, path, *waits), lambda: self.over(one, path, *waits)]
+        if self.one_in(2):
+            lines += [lambda: self.interrupted(one), lambda: f"receive 2 {MANAGERS[mount.manager]}"]
+        last = self.dice.choice([one, one, other])
+        lines += [lambda: f"exit {last.name}", lambda: f"receive 3 {MANAGERS[mount.manager]}"]
+        left = other if last is one else one
+        word = self.dice.choice(["data", "data", "close"])
+        lines += [lambda: self.late_call(left, path, word), lambda: f"receive 1 {MANAGERS[mount.manager]}", lambda: "perform 1 3"]
+        self.coming = lines + [lambda: "perform 3 4", lambda: "perform 2 5"]
+
+    def next_of_scene(self):
+        """The next line of a scene that can be said, if there is one."""
+        while self.coming:
+            line = self.coming.pop(0)()
+            if line:
+                return line
+        return None
+
+    def opening(self, process, path, letters):
+        return lambda: self.said(process, "do 0 open", f"{path} {letters}c 700")
+
+    def said(self, process, word, rest):
+        """A call of a ready thread of a process, if it has one."""
+        ready = [thread for thread in process.threads.values() if thread.state == "ready"]
+        return f"{word} {ready[0].name} {rest}".rstrip() if ready else None
+
+    def over(self, process, path, word, rest):
+        """A call over the last connection of a process to what a path leads to, if it has one."""
+        user = process.user
+        mount, parts = user.place_of(path, self.world.users)
+        number = user.inodes[mount.root].names.get(parts[0]) if len(parts) == 1 else None
+        found = [coid for coid, it in process.connections.items() if it.block and user.blocks[it.block].inode == number]
+        return self.said(process, word, f"{found[-1]} {rest}") if found else None
+
+    def interrupted(self, process):
+        waiting = [thread.name for thread in process.threads.values() if thread.state == "waiting"]
+        return f"interrupt {waiting[-1]}" if waiting else None
+
+    def late_call(self, process, path, word):
+        """What works on a pipe or a device while what is left of an ended process is there."""
+        if word == "close":
+            return self.over(process, path, "close", "")
+        reads = self.over(process, path, "read", self.dice.choice(["0", "1", "4096"]))
+        return self.dice.choice([reads, self.over(process, path, "write", self.dice.choice(["-", "00", "0102"]))])
 
     # -- calls
 
