@@ -26,6 +26,10 @@ def is_root(parts):
     return parts in (["ann"], ["ann", "pipe"])
 
 
+def is_directory(inode):
+    return inode is not None and inode.kind == DIRECTORY
+
+
 def is_above(parts, others):
     return parts is not None and others is not None and others[: len(parts)] == parts
 
@@ -67,7 +71,7 @@ def moves_closed_directory(asked):
     if asked.word != "rename" or asked.old[:-1] == asked.new[:-1]:
         return False
     inode = found_at(asked, asked.old)
-    return inode is not None and inode.kind == DIRECTORY and not inode.mode & MAY_WRITE
+    return is_directory(inode) and not inode.mode & MAY_WRITE
 
 
 def fills_pipe(asked):
@@ -132,13 +136,13 @@ LEFT_OUT = [
     ),
     Entry(
         "a seek in a directory",
-        lambda asked: asked.word == "seek" and asked.inode is not None and asked.inode.kind == DIRECTORY,
+        lambda asked: asked.word == "seek" and is_directory(asked.inode),
         "A directory has no offset here: EINVAL. Names are listed behind a name. On Linux it has one.",
     ),
     Entry(
         "the greatest offsets and files",
         lambda asked: asked.word == "seek" and abs(asked.request.by) > 60_000
-        or asked.word in ("write", "fill") and asked.block is not None and (asked.block.offset > 60_000 or len(asked.inode.data) > 60_000),
+        or asked.word == "write" and asked.block is not None and max(asked.block.offset, len(asked.inode.data)) > 60_000,
         "A file has at most 65,536 bytes here, and an offset at most 2^63 - 1. On Linux both depend on the file system.",
     ),
     Entry(
@@ -150,24 +154,24 @@ LEFT_OUT = [
         "the ranges of a message",
         lambda asked: asked.word == "open" and not asked.request.flags & (READ | WRITE)
         or asked.word == "read" and asked.request.count > 4_096
-        or asked.word in ("write", "fill") and len(asked.request.data) > 4_096
+        or asked.word == "write" and len(asked.request.data) > 4_096
         or asked.word == "list" and not is_component(asked.request.after or "a"),
-        "A message has at most 4,096 bytes here, an open asks to read or to write, and names are listed behind a name. On Linux no "
-        "flag means to read.",
+        "A message has at most 4,096 bytes here, an open asks to read or to write, and names are listed behind a name. On Linux "
+        "no flag means to read.",
     ),
     Entry(
         "a directory that was removed",
-        lambda asked: asked.word == "list" and asked.inode is not None and asked.inode.kind == DIRECTORY and not asked.inode.links,
+        lambda asked: asked.word == "list" and is_directory(asked.inode) and not asked.inode.links,
         "A directory that lost its name has no names here. On Linux to list it is ENOENT.",
     ),
 ]
 
 UNLIKE = {
-    "the number of a connection": "The lowest free number from 3 on, in both; but this program has files of its own open on Linux.",
+    "the number of a connection": "The lowest free one in both. But this program has files of its own open on Linux.",
     "an open of a pipe": "It does not wait for the other side here. On Linux it would, so that side is open there meanwhile.",
-    "the making of a pipe": "An open makes it here, and opens it whatever its mode. On Linux mkfifo() makes it, and its mode is set then.",
+    "the making of a pipe": "An open makes and opens it here, whatever its mode. On Linux mkfifo() makes it.",
     "unlink of a directory": "It takes empty directories here. On Linux rmdir() does.",
-    "numbers of inodes, owners and times": "They are this system's own: an owner is a user's number, a time is the moment of a perform.",
+    "numbers of inodes, owners and times": "An owner is a user's number here, and a time is the moment of a perform.",
     "the size of a directory and of a pipe": "0 and the number of its bytes here. On Linux the file system's own, and 0.",
     "the links of a directory": "1 while it has a name. On Linux each directory in it, and its own entry `.`, count too.",
     "the order of names": "The order of their bytes here. On Linux any.",
@@ -298,7 +302,8 @@ def shown_reply(word, answer):
         return answer
     data = b"" if not data or data[0] == "-" else bytes.fromhex(data[0])
     if word in ("stat", "fstat"):
-        kind, mode, links, size = [int.from_bytes(data[start:end], "little") for start, end in ((4, 6), (6, 8), (8, 12), (16, 24))]
+        places = (4, 6), (6, 8), (8, 12), (16, 24)
+        kind, mode, links, size = [int.from_bytes(data[start:end], "little") for start, end in places]
         more = {FILE: f" links {links} size {size}", PIPE: f" links {links}"}.get(kind, "")
         return f"kind {kind} mode {mode:03o}{more}"
     if word == "list":
@@ -309,7 +314,9 @@ def shown_reply(word, answer):
 
 # How often each kind of call comes. Raw messages and notifications have none like them on Linux.
 NOT_OF_LINUX = ("raw", "notify", "notify64")
-FILE_CALLS = {topic: {word: often for word, often in calls.items() if word not in NOT_OF_LINUX} for topic, calls in TOPICS.items()}
+FILE_CALLS = {
+    topic: {word: often for word, often in calls.items() if word not in NOT_OF_LINUX} for topic, calls in TOPICS.items()
+}
 
 
 class LinuxChooser(Chooser):
@@ -366,7 +373,7 @@ def play(seed, steps, folder):
     """Makes the calls of a seed in both, and returns how often entries applied, what was compared, and a first difference."""
     chooser, caller, counts = LinuxChooser(seed, steps), Caller(folder), Counter()
     chooser.begin()
-    made = []
+    made = 0
     for _ in range(steps):
         text = chooser.chosen_call()
         try:
@@ -378,12 +385,12 @@ def play(seed, steps, folder):
         if entry is not None:
             counts[entry] += 1
             continue
-        made.append(text)
+        made += 1
         ours, theirs = both(chooser, caller, asked, line)
         counts["compared", asked.word, ours.split()[1] if ours.startswith("error") else "done"] += 1
         if ours != theirs:
             caller.end()
-            return counts, [f"seed {seed}, call {len(made)}: {text[:150]}", f"  here      {ours[:150]}", f"  on Linux  {theirs[:150]}"]
+            return counts, [f"seed {seed}, call {made}: {text[:150]}", f"  here      {ours[:150]}", f"  on Linux  {theirs[:150]}"]
     caller.end()
     return counts, []
 

@@ -1457,10 +1457,9 @@ class Configuration:
 
     def enter(self, words):
         """Enters a line, if it is one of the configuration, and says whether it is."""
-        entries = {"user": self.enter_user, "ceiling": self.enter_ceiling, "limit": self.enter_limit, "workers": self.enter_workers}
-        if words[0] not in entries:
+        if words[0] not in ("user", "ceiling", "limit", "workers"):
             return False
-        entries[words[0]](words[1:])
+        getattr(self, f"enter_{words[0]}")(words[1:])
         return True
 
     def enter_user(self, words):
@@ -1683,13 +1682,17 @@ def rows_of(world, step):
             sent = item.thread.sent
             rows += [f"message: {shown(sent.message)} to {MANAGERS[sent.manager]}, over {sent.over} {sent.coid or ''}"]
             rows += user_rows(item.process.user, item.process, getattr(sent.message, "old", sent.coid))
+            for rest in [getattr(sent.message, "rest", None), getattr(sent.message, "to", None)]:
+                rows += walk_rows(item.process.user, sent.root, rest) if sent.root and rest is not None else []
         return rows
     user = world.users[user_of(step)]
     process = None if step.word == "spawn" else user.processes.get(step.values[0][1])
     request = step.values[1] if step.word == "call" else None
     rows = [f"user {user.name}: ceiling {user.ceiling}, limits {user.limits}"]
     rows += [f"mount {'/' + '/'.join(mount.prefix)}: {MANAGERS[mount.manager]}, root {mount.root}" for mount in user.mounts]
-    return rows + (user_rows(user, process, getattr(request, "coid", None)) if process else [f"processes: {sorted(user.processes)}"])
+    if process is None:
+        return [*rows, f"processes: {sorted(user.processes)}"]
+    return rows + user_rows(user, process, getattr(request, "coid", None))
 
 
 def user_rows(user, process, coid):
@@ -1702,12 +1705,27 @@ def user_rows(user, process, coid):
     rows.append(f"connection {coid}: {shown(connection) if connection else 'none'}; all: {sorted(process.connections)}")
     block = user.blocks.get(connection.block) if connection else None
     if block is not None:
-        inode = user.inodes[block.inode]
-        rows.append(f"block {connection.block}: inode {block.inode}, flags {block.flags}, offset {block.offset}, uses {block.uses}")
-        rows.append(f"inode {inode.number}: {KIND_WORDS[inode.kind]}, mode {inode.mode:03o}, links {inode.links}, {len(inode.data)} bytes")
-        rows.append(f"names {inode.names}, {len(inode.readers)} readers and {len(inode.writers)} writers wait")
+        rows.append(f"block {connection.block}: flags {block.flags}, offset {block.offset}, uses {block.uses}")
+        rows.append(inode_row(user.inodes[block.inode]))
     rows.append(f"inodes: {len(user.inodes)}, blocks: {len(user.blocks)}, events: {len(user.events)}")
     return rows
+
+
+def inode_row(inode):
+    waiting = f"{len(inode.readers)} readers and {len(inode.writers)} writers wait"
+    row = f"inode {inode.number}: {KIND_WORDS[inode.kind]}, mode {inode.mode:03o}, links {inode.links}, {len(inode.data)} bytes"
+    return f"{row}, names {inode.names}, {waiting}"
+
+
+def walk_rows(user, root, rest):
+    """What stands along a path, from the root of its mount on."""
+    inode, rows = user.inodes[root], []
+    for name in rest:
+        rows.append(f"on the way to {name}: {inode_row(inode)}")
+        inode = user.inodes.get(inode.names.get(name))
+        if inode is None:
+            return rows
+    return [*rows, f"there: {inode_row(inode)}"]
 
 
 def shown(row):

@@ -11,11 +11,7 @@ import random
 import sys
 
 from model import (
-    APPEND,
-    BadLine,
-    Configuration,
     DEVICE,
-    DEVICES,
     DIRECTORY,
     FILE,
     FLAG_LETTERS,
@@ -58,6 +54,7 @@ WAYS = {
 # How often each kind of call comes, by what the script is about.
 CALLS = dict(open=24, stat=4, unlink=6, mkdir=5, rename=9, read=14, write=14, fill=3, close=10, dup=5, seek=5, fstat=4)
 CALLS |= dict(list=5, chmod=5, notify=12, notify64=4, raw=8)
+OF_PATHS = ("open", "stat", "unlink", "mkdir", "rename")
 TOPICS = {
     "all": CALLS,
     "files": CALLS | dict(read=8, write=8, mkdir=14, rename=24, stat=8, unlink=12, notify=2, notify64=1, chmod=8, list=8),
@@ -70,7 +67,8 @@ TIGHT = {"files": ["inodes", "file", "bytes", "blocks"], "pipes": ["servers"], "
 # The managers whose mounts most paths of a topic are in.
 PLACES = {"pipes": [1], "devices": range(2, len(MANAGERS)), "events": range(1, len(MANAGERS))}
 
-ODD_PATHS = ["ann", "/", "//", "/{}/..", "/./{}", "/{}/.", "/bob", "/ann", "/nobody", "/{}/" + "a" * 64, "/{}/" + "a" * 65, "/{}/\0", "-"]
+ODD_PATHS = ["ann", "/", "//", "/{}/..", "/./{}", "/{}/.", "/bob", "/ann", "/nobody", "/{}/\0", "-"]
+ODD_PATHS += ["/{}/" + "a" * 64, "/{}/" + "a" * 65]
 
 
 class Chooser:
@@ -197,7 +195,8 @@ class Chooser:
         users = self.world.users.values()
         held = [item.process for item in self.world.hands.values() if item and item.kind == "unblock"]
         armed = [event.process for user in users for event in user.events]
-        found = [self.blocking_processes(), self.blocking_processes(), held, armed, [thread.process for thread in self.threads("waiting")]]
+        waiting = [thread.process for thread in self.threads("waiting")]
+        found = [self.blocking_processes(), self.blocking_processes(), held, armed, waiting]
         living = [process for process in self.dice.choice(found) if not process.has_ended]
         if living:
             return f"exit {self.dice.choice(living).name}"
@@ -210,7 +209,8 @@ class Chooser:
             for block in user.blocks.values():
                 waiting = user.inodes[block.inode].readers + user.inodes[block.inode].writers
                 armed = [event.process for event in user.events if user.blocks[event.block].inode == block.inode]
-                found += [process for process in [*(call.thread.process for call in waiting), *armed] if process is not block.process]
+                processes = [call.thread.process for call in waiting] + armed
+                found += [process for process in processes if process is not block.process]
         return found
 
     def reply(self):
@@ -279,7 +279,7 @@ class Chooser:
     def scene(self):
         """The lines of a scene: of two processes at a pipe or a device one waits, and one of both ends."""
         user = self.user()
-        mounts = [mount for mount in user.mounts if mount.manager]
+        mounts = [mount for mount in user.mounts if mount.manager and len(mount.prefix) < 4]
         living = [process for process in user.processes.values() if not process.has_ended]
         if not mounts or len(living) < 2:
             return
@@ -291,7 +291,10 @@ class Chooser:
         if self.one_in(3):
             lines.append(lambda: self.over(one, path, "do 1 notify", "tranarm io 1 1"))
         waits = ["do 2 read", "1"] if flags[0] == "r" else ["do 2 fill", "4096 61"]
-        lines += [lambda: self.over(one, path, *waits), lambda: self.over(one, path, *waits)]
+        first = waits if self.one_in(2) else ["do 2 fill", "4090 61"]
+        lines += [lambda: self.over(one, path, *first), lambda: self.over(one, path, *waits)]
+        if self.one_in(2):
+            lines.append(lambda: self.over(other, path, "do 2 write", "01"))
         if self.one_in(2):
             lines += [lambda: self.interrupted(one), lambda: f"receive 2 {MANAGERS[mount.manager]}"]
         last = self.dice.choice([one, one, other])
@@ -352,7 +355,7 @@ class Chooser:
         if thread is None:
             return f"fstat {self.any_thread()} 3"
         kind = self.weighted(TOPICS[self.topic])
-        if kind not in ("open", "stat", "unlink", "mkdir", "rename") and len(thread.process.connections) < 2 and not self.one_in(9):
+        if kind not in OF_PATHS and len(thread.process.connections) < 2 and not self.one_in(9):
             kind = "open"
         return f"{kind} {thread.name} {getattr(self, f'call_{kind}')(thread.process)}"
 
@@ -379,8 +382,9 @@ class Chooser:
                 for coid, connection in connections:
                     block = user.blocks.get(connection.block)
                     if block and block.inode in left:
-                        calls = [("read", " 1"), ("read", " 0"), ("read", " 4096"), ("write", " -"), ("write", " 00"), ("close", "")]
-                        found += [f"{word} {thread.name} {coid}{rest}" for word, rest in calls]
+                        found += [f"read {thread.name} {coid} {count}" for count in (0, 1, 4_096)]
+                        found += [f"write {thread.name} {coid} {data}" for data in ("-", "00")]
+                        found.append(f"close {thread.name} {coid}")
         return found
 
     def calling_thread(self):
@@ -409,7 +413,8 @@ class Chooser:
         return f"{self.path(user)} {''.join(letters)} {self.mode()}"
 
     def mode(self):
-        return self.dice.choice(["700", "600", "777"]) if not self.one_in(6) else self.dice.choice("000 077 400 200 100 500 600 300 777".split())
+        odd = "000 077 400 200 100 500 600 300 777".split()
+        return self.dice.choice(odd if self.one_in(6) else ["700", "600", "777"])
 
     def call_stat(self, process):
         return self.path(process.user)
@@ -555,10 +560,18 @@ def rename_body(old, new, more=0):
     return (len(old) + more).to_bytes(2, "little") + old + new
 
 
+def notify_body(conds, last, size):
+    return bytes([conds, 1]) + bytes(size) + bytes([last])
+
+
+# Conditions, and the last byte of the value.
+NOTIFIED = [(1, 0), (2, 15), (3, 15), (0, 0), (4, 0), (3, 16)]
+
 # Types, subtypes and bodies, of which some values are out of their ranges.
 RAW = [
     *((256, 1, bytes([flags, 0, 0xC0, 1]) + rest) for flags, rest in [(1, b""), (6, b"a"), (4, b"a"), (0x80, b""), (1, b"a//b")]),
-    *((256, subtype, rest) for subtype in (2, 3) for rest in [b"", b"a", b"a/b", b"/a", b"..", b"a" * 65, b"a\0", b"/".join([b"a"] * 513)]),
+    *((256, subtype, rest) for subtype in (2, 3) for rest in [b"", b"a", b"a/b", b"/a", b"..", b"a" * 65, b"a\0"]),
+    (256, 3, b"a/" * 512 + b"a"),
     *((256, 4, bytes([kind, 0, 0, mode]) + b"d") for kind, mode in [(2, 1), (1, 1), (2, 2)]),
     *((256, 5, rename_body(b"a", b"b", more)) for more in (0, 0, 1, 2)),
     *((257, 0, count.to_bytes(4, "little")) for count in (0, 1, 4_096, 4_097)),
@@ -569,8 +582,8 @@ RAW = [
     (262, 0, b""),
     *((263, 0, name) for name in [b"", b"a", b".", b"a/b"]),
     *((264, 0, mode.to_bytes(2, "little")) for mode in (0o700, 0o777, 512)),
-    *((265, subtype, bytes([conds, 1]) + bytes(3) + bytes([value])) for subtype in range(4) for conds, value in [(1, 0), (3, 15), (0, 0), (3, 16)]),
-    *((266, subtype, bytes([conds, 1]) + bytes(7) + bytes([value])) for subtype in range(4) for conds, value in [(2, 0), (3, 15), (4, 0), (3, 16)]),
+    *((265, subtype, notify_body(*conds_and_value, 3)) for subtype in range(4) for conds_and_value in NOTIFIED),
+    *((266, subtype, notify_body(*conds_and_value, 7)) for subtype in range(4) for conds_and_value in NOTIFIED),
     (267, 0, b""),
     (999, 9, b"abc"),
 ]
