@@ -277,15 +277,18 @@ class Chooser:
     # -- scenes
 
     def scene(self):
-        """The lines of a scene: of two processes at a pipe or a device one waits, and one of both ends."""
+        """The lines of a scene: of two processes at a pipe or a device one waits, and then one of both ends."""
         user = self.user()
         mounts = [mount for mount in user.mounts if mount.manager and len(mount.prefix) < 4]
         living = [process for process in user.processes.values() if not process.has_ended]
-        if not mounts or len(living) < 2:
-            return
-        one, other = self.dice.sample(living, 2)
-        mount = self.dice.choice(mounts)
-        path = f"/{'/'.join(mount.prefix)}/{self.letter()}"
+        if mounts and len(living) > 1:
+            mount = self.dice.choice(mounts)
+            path = f"/{'/'.join(mount.prefix)}/{self.letter()}"
+            one, other = self.dice.sample(living, 2)
+            self.coming = self.waiting_lines(one, other, path) + self.ending_lines(one, other, path, MANAGERS[mount.manager])
+
+    def waiting_lines(self, one, other, path):
+        """Both open a path, and one of them waits, or both."""
         flags = self.dice.choice([("r", "w"), ("w", "r"), ("rw", "rw"), ("w", "rw"), ("r", "rw")])
         lines = [self.opening(process, path, letters) for process, letters in zip((one, other), flags)]
         if self.one_in(3):
@@ -295,14 +298,22 @@ class Chooser:
         lines += [lambda: self.over(one, path, *first), lambda: self.over(one, path, *waits)]
         if self.one_in(2):
             lines.append(lambda: self.over(other, path, "do 2 write", "01"))
-        if self.one_in(2):
-            lines += [lambda: self.interrupted(one), lambda: f"receive 2 {MANAGERS[mount.manager]}"]
+        return lines
+
+    def ending_lines(self, one, other, path, manager):
+        """One is interrupted while it waits, closes or ends, and what comes of that is done in any order."""
         last = self.dice.choice([one, one, other])
-        lines += [lambda: f"exit {last.name}", lambda: f"receive 3 {MANAGERS[mount.manager]}"]
         left = other if last is one else one
         word = self.dice.choice(["data", "data", "close"])
-        lines += [lambda: self.late_call(left, path, word), lambda: f"receive 1 {MANAGERS[mount.manager]}", lambda: "perform 1 3"]
-        self.coming = lines + [lambda: "perform 3 4", lambda: "perform 2 5"]
+        lines = [lambda: self.interrupted(one), lambda: f"receive 2 {manager}"] if self.one_in(2) else []
+        if self.one_in(4):
+            lines.append(lambda: self.over(one, path, "do 3 close", ""))
+        else:
+            lines += [lambda: f"exit {last.name}", lambda: f"receive 3 {manager}"]
+        call = [lambda: self.late_call(left, path, word), lambda: f"receive 1 {manager}", lambda: "perform 1 3"]
+        ends = [call, [lambda: "perform 3 4"], [lambda: "perform 2 5"]]
+        self.dice.shuffle(ends)
+        return lines + sum(ends, [])
 
     def next_of_scene(self):
         """The next line of a scene that can be said, if there is one."""
