@@ -133,7 +133,7 @@ class Chooser:
         for number in range(self.steps):
             if number % 40 == 0:
                 self.way = WAYS[self.dice.choice(list(WAYS))]
-            if self.one_in(40):
+            if self.one_in(30):
                 self.scene()
             self.add(self.next_of_scene() or self.chosen_line())
             if self.one_in(60):
@@ -281,8 +281,9 @@ class Chooser:
         user = self.user()
         mounts = [mount for mount in user.mounts if mount.manager and len(mount.prefix) < 4]
         living = [process for process in user.processes.values() if not process.has_ended]
+        pipes = [mount for mount in mounts if mount.manager == MANAGERS.index("pipe")]
         if mounts and len(living) > 1:
-            mount = self.dice.choice(mounts)
+            mount = self.dice.choice(pipes if pipes and self.one_in(2) else mounts)
             path = f"/{'/'.join(mount.prefix)}/{self.letter()}"
             one, other = self.dice.sample(living, 2)
             self.coming = self.waiting_lines(one, other, path) + self.ending_lines(one, other, path, MANAGERS[mount.manager])
