@@ -94,11 +94,6 @@ LEFT_OUT = [
         "A path begins with a slash and a user's name here, its components have at most 64 bytes, and `.` and `..` are none.",
     ),
     Entry(
-        "a slash at the end",
-        lambda asked: getattr(asked.request, "path", "").endswith("/") or getattr(asked.request, "to_path", "").endswith("/"),
-        "Slashes at the end of a path are left out here. On Linux they ask for a directory.",
-    ),
-    Entry(
         "a root",
         lambda asked: asked.word in ("unlink", "mkdir", "rename") and (is_root(asked.old) or is_root(asked.new)),
         "The root of a mount can't be removed or renamed here, which is EBUSY. The folder that stands for it on Linux can.",
@@ -168,6 +163,7 @@ LEFT_OUT = [
 
 UNLIKE = {
     "the number of a connection": "The lowest free one in both. But this program has files of its own open on Linux.",
+    "slashes at the end of a path": "They say nothing here. On Linux they ask for a directory, and are left out.",
     "an open of a pipe": "It does not wait for the other side here. On Linux it would, so that side is open there meanwhile.",
     "the making of a pipe": "An open makes and opens it here, whatever its mode. On Linux mkfifo() makes it.",
     "unlink of a directory": "It takes empty directories here. On Linux rmdir() does.",
