@@ -6,7 +6,7 @@ ghost use Rattle.qx_types.specs.Step.{is_client_step};
 use crate::commands::bytes_of;
 use crate::plan::Plan;
 use crate::ward::{Ward, thread};
-use pump::{Command, Pump, pump_of};
+use qx_devices::pump::{Command, Pump, pump_of};
 use qx_pool::{CallEnd, ClientOf, PulseEnd, UnderLock};
 use qx_types::{
     Bytes, Coid, Conds, MessageBytes, NotifyAction, OFlags, Outcome, Request, Step, Thread, User,

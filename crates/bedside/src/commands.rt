@@ -1,10 +1,10 @@
 //! What is written to a pump, as bytes.
 
 ghost use Rattle.std.specs.Prelude.{◌≡◌, ◌≢◌, ◌<◌, IfOk, Some};
-ghost use Rattle.pump.specs.Pump.{command_of, command_with, plain_command};
-ghost use Rattle.pump.specs.declared.Command.TheVariants as variant;
+ghost use Rattle.qx_devices.specs.Pump.{command_of, command_with, plain_command};
+ghost use Rattle.qx_devices.specs.declared.pump.Command.TheVariants as variant;
 
-use pump::Command;
+use qx_devices::pump::Command;
 use qx_types::Bytes;
 use std::alloc::{AllocError, Global};
 

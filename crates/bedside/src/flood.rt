@@ -3,10 +3,10 @@
 use crate::caller::{Caller, Fault, path_of};
 use crate::commands::bytes_of;
 use crate::plan::TRIAL_PRIORITY;
-use crate::ward::{Stage, Ward};
-use pump::Command;
+use crate::ward::{Stage, Ward, pumps};
+use qx_devices::pump::Command;
 use qx_pool::{CallEnd, UnderLock};
-use qx_types::{Bytes, Coid, Device, Manager, OFlags, Outcome, Prio, Proc, Request, Step, User};
+use qx_types::{Bytes, Coid, Manager, OFlags, Outcome, Prio, Proc, Request, Step, User};
 use std::alloc::{AllocError, Global};
 use std::sync::Wait;
 use std::thread;
@@ -90,7 +90,7 @@ fn live<S: UnderLock, R: Wait>(
     let thread = caller.thread();
     let user = thread.proc.user;
     for (word, manager) in [
-        ("pumps", Manager::Device(Device::Pump)),
+        ("pumps", pumps()?),
         ("pipes", Manager::Pipe),
         ("more", Manager::Pipe),
     ] {

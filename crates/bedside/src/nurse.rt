@@ -2,7 +2,7 @@
 
 use crate::caller::{Caller, Fault};
 use crate::ward::{Bed, Ward};
-use pump::{Command, Doing, Pump};
+use qx_devices::pump::{Command, Doing, Pump};
 use qx_pool::UnderLock;
 use std::sync::Wait;
 use std::time::Clock;

@@ -65,6 +65,14 @@ pub fn thread(user: User, num: u8) -> Thread {
     }
 }
 
+/// The manager of pumps.
+pub fn pumps() -> Result<Manager, Fault> {
+    match Device::of_word(b"pump") {
+        Some(pump) => Ok(Manager::Device(pump)),
+        None => Err(Fault::Unexpected),
+    }
+}
+
 /// Starts the processes of a bed, and attaches its pump.
 fn boot_bed<S: UnderLock, R: Wait>(
     rt: &R,
@@ -85,7 +93,7 @@ fn boot_bed<S: UnderLock, R: Wait>(
     let mount = Step::Mount {
         thread: thread(user, DRIVER),
         path: path_of(alloc, user, "pumps")?,
-        manager: Manager::Device(Device::Pump),
+        manager: pumps()?,
     };
     match caller.step(rt, mount)? {
         Outcome::Done => Ok(()),

@@ -212,7 +212,7 @@ fn mounted(alloc: Global) -> Result<bool, NoMemory> {
 }
 
 fn spawned(alloc: Global) -> Result<bool, NoMemory> {
-    Ok(Processes::new(alloc)?.spawn(&UserLimits::default(), 2, Prio(10))? == Outcome::Spawned(1))
+    Ok(Processes::new(alloc)?.spawn(alloc, &UserLimits::default(), 2, Prio(10))? == Outcome::Spawned(1))
 }
 
 /// A file of user 1.

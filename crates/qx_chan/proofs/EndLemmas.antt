@@ -11,9 +11,8 @@ use Rattle.std.specs.Option.{option_to_list}
 use Rattle.std.specs.Prelude.{IfSome, option_map, take, if◌then◌else◌}
 use Rattle.std.proofs.lemmas.Bool.{cases_eq, cases_lt, eqb-false, eqb-true}
 use Rattle.std.proofs.lemmas.List.{append-nil, append_assoc, get_or-set_other, get_or-set_same, length-set, map-append, take_all, take_more}
-use Rattle.qx_types.specs.Managers.{manager_number}
+use Rattle.qx_types.specs.Managers.{manager_count, manager_number}
 use Rattle.qx_types.specs.declared.names.Manager.{Manager}
-use Rattle.qx_types.specs.declared.names.TheConstants.Manager.{COUNT}
 use Rattle.qx_types.specs.declared.names.Proc.{Proc}
 use Rattle.qx_types.specs.declared.names.Thread.{Thread}
 use Rattle.qx_isolation.specs.declared.rows.OwnItem.TheVariants as item
@@ -87,7 +86,7 @@ module _ (queues : Shared) (thread : Thread) (row : Option ThreadRow) (stand : S
     others = λ other differs. record { stand = λ number. refl; calls = λ number. refl };
   }
 
-module _ (queues : Shared) (thread : Thread) (row : ThreadRow) (sent : Sent) (stand : StandsFor queues thread (Some row)) (managers : length queues.lines ≡ COUNT) where
+module _ (queues : Shared) (thread : Thread) (row : ThreadRow) (sent : Sent) (stand : StandsFor queues thread (Some row)) (managers : length queues.lines ≡ manager_count) where
   abbrev line_number : ℕ
   line_number = manager_number sent.target.manager
 
@@ -184,7 +183,7 @@ module _ (queues : Shared) (thread : Thread) (row : ThreadRow) (stand : StandsFo
   drops-ready (inl ready) = drops-idle _ ready refl (λ at. refl) (λ at call. refl)
   drops-ready (inr answered) = drops-idle _ answered.1 refl (λ at. refl) (λ at call. refl)
 
-  module _ (sent : Sent) (managers : length queues.lines ≡ COUNT)
+  module _ (sent : Sent) (managers : length queues.lines ≡ manager_count)
       (gone : unblock_call (line_at queues.lines (manager_number sent.target.manager)) thread ≡ Some row.calls → unblock_call (line_without thread.proc.user.0 (item.Unblock thread.proc.num thread.tid row.calls) (line_at queues.lines (manager_number sent.target.manager))) thread ≡ None) where
     -- one whose message was received
     pub drops-taken : row.state ≡ state.Taken sent → Drops queues (with_shared_line queues (manager_number sent.target.manager) (line_without thread.proc.user.0 (item.Unblock thread.proc.num thread.tid row.calls))) thread (Some row)

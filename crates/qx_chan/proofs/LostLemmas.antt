@@ -8,10 +8,9 @@ use Rattle.std.specs.Prelude.{IfSome, option_map, take, ◌||◌}
 use Rattle.std.proofs.Math.Bool.{and-true}
 use Rattle.std.proofs.lemmas.List.{length-set}
 use Rattle.qx_types.proofs.Managers.{number_below}
-use Rattle.qx_types.specs.Managers.{manager_number, managers}
+use Rattle.qx_types.specs.Managers.{manager_count, manager_number, managers}
 use Rattle.qx_types.specs.declared.names.Manager.{Manager}
 use Rattle.qx_types.specs.declared.names.Proc.{Proc}
-use Rattle.qx_types.specs.declared.names.TheConstants.Manager.{COUNT}
 use Rattle.qx_types.specs.declared.names.Thread.{Thread}
 use Rattle.qx_paths.specs.Prefixes.{MountPoint}
 use Rattle.qx_isolation.specs.declared.rows.Queued.{Queued}
@@ -114,7 +113,7 @@ module _ (proc : Proc) where
 -- rows, lines and nodes stand together, but for the disconnect nodes of one process
 pub record StandBeside (processes : Users) (queues : Shared) (proc : Proc) : Type 0 where
   pub users : length queues.pipes ≡ length processes
-  pub managers : length queues.lines ≡ COUNT
+  pub managers : length queues.lines ≡ manager_count
   pub threads : (thread : Thread) → has_thread queues thread ≡ nodes_for processes thread
   pub lines : (thread : Thread) (number : ℕ) → stands (line_at queues.lines number) thread ≡ stands_at number (thread_row processes thread)
   pub pulses : (thread : Thread) (number call : ℕ) → unblock_call (line_at queues.lines number) thread ≡ Some call → asked_call number call (thread_row processes thread) ≡ true

@@ -7,12 +7,11 @@ use Rattle.std.proofs.lemmas.Bool.{cases_Bool, cases_lt}
 use Rattle.std.proofs.lemmas.Bool.Decides.{eqb_tells, nat_tests}
 use Rattle.std.proofs.lemmas.List.{get_or-replicate, length-replicate}
 use Rattle.qx_types.proofs.Managers.{number_below}
-use Rattle.qx_types.specs.Managers.{manager_number}
+use Rattle.qx_types.specs.Managers.{manager_count, manager_number}
 use Rattle.qx_errno.specs.declared.Errno.TheVariants.{EAGAIN, EINVAL}
 use Rattle.qx_types.specs.declared.limits.TheConstants.Limits.{PROCESSES, THREADS}
 use Rattle.qx_types.specs.UserLimits.{UserLimits}
 use Rattle.qx_types.specs.declared.names.Manager.{Manager}
-use Rattle.qx_types.specs.declared.names.TheConstants.Manager.{COUNT}
 use Rattle.qx_types.specs.declared.names.Proc.{Proc}
 use Rattle.qx_types.specs.declared.names.Thread.{Thread}
 use Rattle.qx_types.specs.declared.outcome.Outcome.{Outcome}
@@ -155,7 +154,7 @@ new_waits threads (suc k) prio number = elim (cases_lt k threads) [
 ]
 
 new_served : (threads prio : ℕ) (manager : Manager) → served_at manager (Some (new_process threads prio)) ≡ false
-new_served threads prio manager = ap (λ servers. is_some (in_use servers)) (line_at-get_or (new_process threads prio).servers (manager_number manager) ∙ get_or-replicate COUNT (manager_number manager) no_servers [] (number_below manager))
+new_served threads prio manager = ap (λ servers. is_some (in_use servers)) (line_at-get_or (new_process threads prio).servers (manager_number manager) ∙ get_or-replicate manager_count (manager_number manager) no_servers [] (number_below manager))
 
 module _ (limits : UserLimits) (users : Users) (proc : Proc) (threads prio : ℕ) (begun : Starts limits users proc threads prio) where
   abbrev started : List (Option Process) → List (Option Process)
@@ -297,10 +296,10 @@ same-places users = length-replicate (users + 1) no_events ∙ sym (length-repli
 pub Kept-empty : (users : ℕ) → StandTogether (no_processes users) (nothing_shared users)
 Kept-empty users = record {
   users = length-replicate (users + 1) no_pipes ∙ add-one users ∙ ap suc (sym (length-replicate users (Some no_rows)));
-  managers = refl;
+  managers = length-replicate manager_count [];
   threads = λ thread. set.contains-empty thread_cmp thread ∙ sym (ap (has_nodes thread.tid) (none_at_boot users thread.proc));
-  lines = λ thread number. no_line COUNT number thread ∙ sym (ap (λ o. stands_at number (thread_of thread.tid o)) (none_at_boot users thread.proc));
-  pulses = λ thread number call is. let clash : None ≡ Some call = sym (no_pulse COUNT number thread) ∙ is in absurd (cc);
+  lines = λ thread number. no_line manager_count number thread ∙ sym (ap (λ o. stands_at number (thread_of thread.tid o)) (none_at_boot users thread.proc));
+  pulses = λ thread number call is. let clash : None ≡ Some call = sym (no_pulse manager_count number thread) ∙ is in absurd (cc);
   servers = λ proc manager. set.contains-empty server_cmp (proc, manager_number manager) ∙ sym (ap (served_at manager) (none_at_boot users proc));
   waits = λ user. subst (AllByRecursion (IsWaiting (no_processes users))) (sym (none_waits (users + 1) user)) tt;
   answered = refl;

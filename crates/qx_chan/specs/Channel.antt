@@ -2,12 +2,11 @@
 use Rattle.std.specs.Prelude.{⊤, ℕ, Bool, true, false, ◌+◌, [], ◌∷◌, ◌++◌, List, Option, Some, None, drop, get_or, if◌then◌else◌, is_some, length, map, option_map, replicate, slice_get, slice_set}
 use Rattle.qx_types.specs.UserLimits.{UserLimits}
 use Rattle.qx_types.specs.Configuration.{Configuration}
-use Rattle.qx_types.specs.Managers.{manager_number}
+use Rattle.qx_types.specs.Managers.{manager_count, manager_number}
 use Rattle.qx_errno.specs.declared.Errno.{Errno}
 use Rattle.qx_errno.specs.declared.Errno.TheVariants.{EINTR}
 use Rattle.qx_types.specs.declared.names.Manager.{Manager}
 use Rattle.qx_types.specs.declared.names.Proc.{Proc}
-use Rattle.qx_types.specs.declared.names.TheConstants.Manager.{COUNT}
 use Rattle.qx_types.specs.declared.names.Thread.{Thread}
 use Rattle.qx_types.specs.declared.outcome.Answer.{Answer}
 use Rattle.qx_types.specs.declared.outcome.Answer.TheVariants.{Failed}
@@ -59,7 +58,7 @@ lists c = record { shared = record (nothing_shared 0) { pipes = c.pipes }; event
 
 -- at boot: the users with no process, empty lines, no pipe, no events, and of mounts each user's top
 abbrev pub boot_channel : Configuration → Channel
-boot_channel config = let users = length config.users in record { users = no_processes users; lines = replicate COUNT []; pipes = replicate (users + 1) no_pipes; events = replicate (users + 1) no_events; mounts = all_boot_mounts config top_inode; room = 0 }
+boot_channel config = let users = length config.users in record { users = no_processes users; lines = replicate manager_count []; pipes = replicate (users + 1) no_pipes; events = replicate (users + 1) no_events; mounts = all_boot_mounts config top_inode; room = 0 }
 
 -- a manager's line
 abbrev pub channel_line : Channel → Manager → List Queued

@@ -116,6 +116,7 @@ impl Channel {
     /// wants no memory.
     pub fn spawn(
         &mut self,
+        alloc: Global,
         limits: &UserLimits,
         user: User,
         threads: u8,
@@ -132,7 +133,7 @@ impl Channel {
             Ok(num) => {
                 let proc = Proc { user, num };
                 self.tables.shared.reserve(threads)?;
-                self.users.start(proc, threads, prio)?;
+                self.users.start(alloc, proc, threads, prio)?;
                 self.tables.shared.add_process(proc, threads, prio);
                 Ok(Outcome::Spawned(num))
             }

@@ -2,7 +2,7 @@
 
 ghost use Rattle.std.specs.Prelude.{◌≡◌, ◌≤◌, ℕ, length};
 ghost use Rattle.std.specs.Option.{option_copied};
-ghost use Rattle.qx_types.specs.declared.names.TheConstants.Manager.{COUNT};
+ghost use Rattle.qx_types.specs.Managers.{manager_count};
 ghost use Rattle.qx_machine.specs.Processes.{living};
 ghost use Rattle.qx_chan.specs.Channel.{after_exit, after_freeing, exit_outcome};
 ghost use Rattle.qx_procs.specs.Calls.{has_ended_in};
@@ -68,7 +68,7 @@ impl Channel {
 /// What a thread has in a line leaves it: its message, or the pulse that asks to unblock it.
 fn drop_items(queues: &mut Shared, thread: Thread, cell: Option<&ThreadCell>)
     requires stands { StandsFor queues.old thread (option_copied cell) }
-    requires managers { length queues.old.lines ≡ COUNT }
+    requires managers { length queues.old.lines ≡ manager_count }
     ensures dropped { Drops queues.old queues.new thread (option_copied cell.entry) }
 {
     let Some(cell) = cell else {
@@ -84,7 +84,7 @@ fn drop_items(queues: &mut Shared, thread: Thread, cell: Option<&ThreadCell>)
 /// What the threads of a process have in lines leaves them, those that have the first so many places.
 fn drop_all_items(queues: &mut Shared, users: &Users, proc: Proc, places: u8)
     requires stands { (tid : ℕ) → StandsFor queues.old (record { proc = proc; tid = tid }) (thread_row users.now (record { proc = proc; tid = tid })) }
-    requires managers { length queues.old.lines ≡ COUNT }
+    requires managers { length queues.old.lines ≡ manager_count }
     ensures dropped { DropsBelow users.now queues.old queues.new proc places }
 {
     for tid in 0..places {

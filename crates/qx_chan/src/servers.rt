@@ -48,11 +48,12 @@ pub fn attach(queues: &mut Shared, process: &Process, proc: Proc, target: Target
 
 /// The disconnect pulses of a process that has lost these server connections go into their managers' lines.
 pub fn disconnect_all(queues: &mut Shared, proc: Proc, lost: LostServers)
-    requires there { AllHaveNodes queues.old proc lost }
-    ensures disconnected { queues.new ≡ with_lost proc (flat_map option_to_list lost) queues.old }
+    requires there { AllHaveNodes queues.old proc lost.items }
+    ensures disconnected { queues.new ≡ with_lost proc (flat_map option_to_list lost.items) queues.old }
 {
-    for number in 0..Manager::COUNT {
-        disconnect(queues, proc, lost[number]);
+    let all = lost.as_slice();
+    for number in 0..all.len() {
+        disconnect(queues, proc, all[number]);
     }
 }
 

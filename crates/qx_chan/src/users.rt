@@ -135,7 +135,7 @@ impl Users {
 
     /// Starts a process under a number.
     #[tactic(auto, using(crate::proofs::ProcessLemmas::lends))]
-    pub fn start(&mut self, proc: Proc, threads: u8, prio: Prio) -> Result<(), AllocError>
+    pub fn start(&mut self, alloc: Global, proc: Proc, threads: u8, prio: Prio) -> Result<(), AllocError>
         requires few { proc.num ≤ PROCESSES }
         requires threads { threads ≤ THREADS }
         requires priority { IsPriority prio.0 }
@@ -144,7 +144,7 @@ impl Users {
         ensures err { OnErr result (self.new ≡ self.old) }
     {
         if let Some(processes) = self.processes_mut(proc.user) {
-            processes.start(proc.num, threads, prio)?;
+            processes.start(alloc, proc.num, threads, prio)?;
         }
         Ok(())
     }
@@ -205,7 +205,7 @@ impl Users {
     #[tactic(auto, using(crate::proofs::ProcessLemmas::lends))]
     pub fn end(&mut self, alloc: Global, proc: Proc) -> LostServers
         ensures ended { self.new ≡ with_process_of self.old proc ended }
-        ensures lost { EndsAt result (process_of self.old proc) (process_of self.new proc) }
+        ensures lost { EndsAt result.items (process_of self.old proc) (process_of self.new proc) }
     {
         match self.process_mut(proc) {
             Some(process) => process.end(alloc),

@@ -1,1 +1,3 @@
+pub mod Found
 pub mod Listed
+pub mod Words

@@ -1,47 +1,54 @@
--- The devices that can be attached, each with its word, and what a call to it comes to by its own definitions.
-use Rattle.std.specs.Prelude.{ℕ, List, [], ◌∷◌, Bool, codes}
+-- Devices by their numbers, and what a call to one comes to.
+use Rattle.std.specs.Prelude.{ℕ, ◌<◌, List, [], ◌∷◌, Bool, Option, Some, None, get_or}
+use Rattle.std.specs.List.{find, flat_map, range_with_len}
+use Rattle.std.specs.Str.{bytes_eq}
+use Rattle.std.specs.Option.{option_to_list}
+use Rattle.std.proofs.Math.Decide.{dec_lt}
 use Rattle.qx_device.specs.Verdict.{Verdict}
+use Rattle.qx_devices.specs.Count.{device_count}
+use Rattle.qx_devices.specs.Listed.{listed}
+use Rattle.qx_devices.specs.Row.{Row, no_row}
 use Rattle.qx_devices.specs.declared.Device.{Device}
-use Rattle.qx_devices.specs.declared.Device.TheVariants.{Latch, Mailbox, Pump}
-use Rattle.latch.specs.Latch as latch
-use Rattle.mailbox.specs.Mailbox as mailbox
-use Rattle.pump.specs.Pump as pump
-
--- all of them, in the order of their numbers
-abbrev pub devices : List Device
-devices = Latch ∷ Mailbox ∷ Pump ∷ []
 
 -- a device's number, from 0
 abbrev pub device_number : Device → ℕ
-device_number Latch = 0
-device_number Mailbox = 1
-device_number Pump = 2
+device_number device = device.number
+
+-- the device of a number, where one is listed
+abbrev pub device_where : (number : ℕ) → Dec (number < device_count) → Option Device
+device_where number (yes few) = Some (record { number = number; listed = few })
+device_where number (no _) = None
+
+unfoldable pub device_of : ℕ → Option Device
+device_of number = device_where number (dec_lt number device_count)
+
+-- all of them, in the order of their numbers
+unfoldable pub devices : List Device
+devices = flat_map (λ number. option_to_list (device_of number)) (range_with_len 0 device_count)
+
+-- what is listed of it
+unfoldable pub row_of : Device → Row
+row_of device = get_or listed device.number no_row
 
 -- by which a script names it
-abbrev pub device_word : Device → List ℕ
-device_word Latch = codes "latch"
-device_word Mailbox = codes "mailbox"
-device_word Pump = codes "pump"
+unfoldable pub device_word : Device → List ℕ
+device_word device = (row_of device).word
+
+-- the device of a word, if it is one's
+unfoldable pub device_named : List ℕ → Option Device
+device_named word = find (λ device. bytes_eq word (device_word device)) devices
 
 -- what a read of at most so many bytes comes to
 unfoldable pub read_verdict : Device → ℕ → List ℕ → Verdict
-read_verdict Latch = latch.read_verdict
-read_verdict Mailbox = mailbox.read_verdict
-read_verdict Pump = pump.read_verdict
+read_verdict device = (row_of device).read
 
 -- what a write of bytes comes to
 unfoldable pub write_verdict : Device → List ℕ → List ℕ → Verdict
-write_verdict Latch = latch.write_verdict
-write_verdict Mailbox = mailbox.write_verdict
-write_verdict Pump = pump.write_verdict
+write_verdict device = (row_of device).write
 
 -- whether a read, and whether a write, would not wait
 unfoldable pub has_input : Device → List ℕ → Bool
-has_input Latch = latch.has_input
-has_input Mailbox = mailbox.has_input
-has_input Pump = pump.has_input
+has_input device = (row_of device).has_input
 
 unfoldable pub has_output : Device → List ℕ → Bool
-has_output Latch = latch.has_output
-has_output Mailbox = mailbox.has_output
-has_output Pump = pump.has_output
+has_output device = (row_of device).has_output

@@ -1,108 +1,145 @@
-//! The devices that can be attached. A new one has its line in each list here and in `Devices.antt`, and nowhere else.
+//! The devices that can be attached, each with its code in a file of its own and its definitions in `specs/`. A new one has its row in
+//! `Listed.antt`, and its line in each list here: `./device` writes all of it.
+//!
+//! A device is known above by its number alone. So what is proved there holds of any list, and is not proved again for a new one. That
+//! takes devices of one crate: what is proved of a further crate's definitions would be checked again in each crate above.
 #![tactic(auto)]
 
 ghost use Rattle.std.specs.Prelude.{◌≡◌, ◌<◌, ◌≤◌, [], length, slice_get};
 ghost use Rattle.qx_device.specs.Verdict.{left_by};
 ghost use Rattle.qx_device.specs.declared.TheConstants.{STATE};
-ghost use Rattle.qx_devices.specs.Devices.{device_number, device_word, devices, has_input, has_output, read_verdict, write_verdict};
-ghost use Rattle.qx_devices.specs.declared.TheConstants.Device.{COUNT};
+ghost use Rattle.qx_devices.specs.Count.{device_count};
+
+mod latch;
+mod mailbox;
+pub mod pump;
 
 use qx_device::{Given, State, Told};
 
-/// A device: its definitions and its code are those of the crate of its name.
+/// A device that is listed: its definitions and its code are those of its name.
 #[derive(Clone, Copy, Debug, PartialEq, Eq)]
-pub enum Device {
-    Latch,
-    Mailbox,
-    Pump,
+pub struct Device {
+    number: u8,
+    ghost listed: { number < device_count },
 }
 
 impl Device {
-    /// How many devices there are.
-    pub const COUNT: usize = 3;
+    ghost use Rattle.qx_devices.specs.Devices.{device_named, device_number, device_word, devices, has_input, has_output, read_verdict, write_verdict};
+    ghost use Rattle.qx_devices.specs.declared.TheConstants.Device.{MOST};
+
+    /// The most devices that can be listed.
+    pub const MOST: usize = 64;
+
+    /// How many devices are listed.
+    #[tactic(auto, unfolding(crate::specs::Count::device_count, crate::specs::Listed::listed))]
+    pub fn count() -> usize
+        ensures count { result ≡ device_count }
+        ensures few { result ≤ MOST }
+    {
+        3
+    }
 
     /// The device's number, from 0.
+    #[tactic(auto, unfolding(crate::specs::Count::device_count, crate::specs::Listed::listed))]
     pub fn number(self) -> usize
         ensures number { result ≡ device_number self }
-        ensures few { result < COUNT }
+        ensures few { result < device_count }
+        ensures most { result < MOST }
     {
-        match self {
-            Device::Latch => 0,
-            Device::Mailbox => 1,
-            Device::Pump => 2,
-        }
+        self.number as usize
     }
 
     /// The device of a number; none for another number.
     pub fn of_number(number: usize) -> Option<Device>
         ensures { result ≡ slice_get devices number }
     {
-        match number {
-            0 => Some(Device::Latch),
-            1 => Some(Device::Mailbox),
-            2 => Some(Device::Pump),
-            _ => None,
+        if number < Device::count() {
+            Some(Device {
+                number: number as u8,
+            })
+        } else {
+            None
         }
     }
 
     /// The word by which a script names it.
-    pub fn word(self) -> &'static str
+    #[tactic(auto, unfolding(crate::specs::Count::device_count, crate::specs::Listed::listed, crate::specs::Devices::row_of, crate::specs::Devices::device_word))]
+    pub fn word(self) -> &'static [u8]
         ensures { result.now ≡ device_word self }
     {
-        match self {
-            Device::Latch => "latch",
-            Device::Mailbox => "mailbox",
-            Device::Pump => "pump",
+        match self.number {
+            0 => b"latch",
+            1 => b"mailbox",
+            2 => b"pump",
+            _ => unreachable!(),
         }
     }
 
+    /// The device of a word; none for another word.
+    #[tactic(auto, unfolding(crate::specs::Devices::device_named))]
+    pub fn of_word(word: &[u8]) -> Option<Device>
+        ensures { result ≡ device_named word.now }
+    {
+        for number in 0..Device::count() {
+            let device = Device::of_number(number)?;
+            if word == device.word() {
+                return Some(device);
+            }
+        }
+        None
+    }
+
     /// A read of at most so many bytes: what it is told, and the bytes that it is given (C Library Reference: `read`).
-    #[tactic(auto, unfolding(crate::specs::Devices::read_verdict))]
+    #[tactic(auto, unfolding(crate::specs::Count::device_count, crate::specs::Listed::listed, crate::specs::Devices::row_of, crate::specs::Devices::read_verdict))]
     pub fn read(self, count: u32, state: &mut State, given: &mut Given) -> Told
         requires none { given.old ≡ [] }
         ensures left { record { told = result; bytes = given.new; state = state.new } ≡ left_by state.old (read_verdict self count state.old) }
     {
-        match self {
-            Device::Latch => latch::read(count, state, given),
-            Device::Mailbox => mailbox::read(count, state, given),
-            Device::Pump => pump::read(count, state, given),
+        match self.number {
+            0 => latch::read(count, state, given),
+            1 => mailbox::read(count, state, given),
+            2 => pump::read(count, state, given),
+            _ => unreachable!(),
         }
     }
 
     /// A write of these bytes: what it is told (C Library Reference: `write`).
-    #[tactic(auto, unfolding(crate::specs::Devices::write_verdict))]
+    #[tactic(auto, unfolding(crate::specs::Count::device_count, crate::specs::Listed::listed, crate::specs::Devices::row_of, crate::specs::Devices::write_verdict))]
     pub fn write(self, bytes: &[u8], state: &mut State) -> Told
         requires few { length bytes.now ≤ STATE }
         ensures left { record { told = result; bytes = []; state = state.new } ≡ left_by state.old (write_verdict self bytes.now state.old) }
     {
-        match self {
-            Device::Latch => latch::write(bytes, state),
-            Device::Mailbox => mailbox::write(bytes, state),
-            Device::Pump => pump::write(bytes, state),
+        match self.number {
+            0 => latch::write(bytes, state),
+            1 => mailbox::write(bytes, state),
+            2 => pump::write(bytes, state),
+            _ => unreachable!(),
         }
     }
 
     /// Whether a read would not wait (C Library Reference: `ionotify`).
-    #[tactic(auto, unfolding(crate::specs::Devices::has_input))]
+    #[tactic(auto, unfolding(crate::specs::Count::device_count, crate::specs::Listed::listed, crate::specs::Devices::row_of, crate::specs::Devices::has_input))]
     pub fn may_read(self, state: &State) -> bool
         ensures { result ≡ has_input self state.now }
     {
-        match self {
-            Device::Latch => latch::may_read(state),
-            Device::Mailbox => mailbox::may_read(state),
-            Device::Pump => pump::may_read(state),
+        match self.number {
+            0 => latch::may_read(state),
+            1 => mailbox::may_read(state),
+            2 => pump::may_read(state),
+            _ => unreachable!(),
         }
     }
 
     /// Whether a write would not wait.
-    #[tactic(auto, unfolding(crate::specs::Devices::has_output))]
+    #[tactic(auto, unfolding(crate::specs::Count::device_count, crate::specs::Listed::listed, crate::specs::Devices::row_of, crate::specs::Devices::has_output))]
     pub fn may_write(self, state: &State) -> bool
         ensures { result ≡ has_output self state.now }
     {
-        match self {
-            Device::Latch => latch::may_write(state),
-            Device::Mailbox => mailbox::may_write(state),
-            Device::Pump => pump::may_write(state),
+        match self.number {
+            0 => latch::may_write(state),
+            1 => mailbox::may_write(state),
+            2 => pump::may_write(state),
+            _ => unreachable!(),
         }
     }
 }

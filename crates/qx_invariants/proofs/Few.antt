@@ -7,7 +7,7 @@ use Rattle.std.proofs.Math.ListN.{length-set}
 use Rattle.std.proofs.lemmas.List.Sums.{sum_by-append, sum_by-cons}
 use Rattle.std.proofs.lemmas.Option.{same_Some}
 use Rattle.qx_types.specs.Configuration.{Configuration, limits_of}
-use Rattle.qx_types.specs.Managers.{manager_number}
+use Rattle.qx_types.specs.Managers.{manager_count, manager_number}
 use Rattle.qx_types.specs.UserLimits.{UserLimits}
 use Rattle.qx_errno.specs.declared.Errno.{Errno}
 use Rattle.qx_errno.specs.declared.Errno.TheVariants.{EAGAIN, EBADF, EINTR, EINVAL, EMFILE, EXDEV}
@@ -16,7 +16,6 @@ use Rattle.qx_types.specs.declared.names.Coid.{Coid}
 use Rattle.qx_types.specs.declared.names.Manager.{Manager}
 use Rattle.qx_types.specs.declared.names.Prio.{Prio}
 use Rattle.qx_types.specs.declared.names.Thread.{Thread}
-use Rattle.qx_types.specs.declared.names.TheConstants.Manager.{COUNT}
 use Rattle.qx_types.specs.declared.outcome.Answer.{Answer}
 use Rattle.qx_types.specs.declared.outcome.Answer.TheVariants as answer
 use Rattle.qx_types.specs.declared.outcome.Outcome.TheVariants.{Refused, WrongState}
@@ -266,7 +265,7 @@ few_shrunk limits processes now shrunk h = record {
 -- ---- a process comes
 
 new_count : (threads prio : ℕ) (manager : Manager) → server_count manager (Some (new_process threads prio)) ≡ 0
-new_count threads prio manager = none COUNT (manager_number manager)
+new_count threads prio manager = none manager_count (manager_number manager)
   where
     none : (places at : ℕ) → count (line_at (replicate places no_servers) at) ≡ 0
     none zero at = refl

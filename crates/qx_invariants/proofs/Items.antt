@@ -7,11 +7,10 @@ use Rattle.std.proofs.lemmas.List.Folds.{sum_by-replicate}
 use Rattle.std.proofs.lemmas.List.Sums.{sum_by-cons}
 use Rattle.std.proofs.lemmas.Option.{same_Some}
 use Rattle.qx_types.specs.Configuration.{Configuration}
-use Rattle.qx_types.specs.Managers.{manager_number}
+use Rattle.qx_types.specs.Managers.{manager_count, manager_number}
 use Rattle.qx_types.specs.Step.{actor_of, user_of}
 use Rattle.qx_types.specs.declared.names.Actor.{Actor}
 use Rattle.qx_types.specs.declared.names.Manager.{Manager}
-use Rattle.qx_types.specs.declared.names.TheConstants.Manager.{COUNT}
 use Rattle.qx_types.specs.declared.step.Step.{Step}
 use Rattle.qx_machine.specs.declared.rows.Client.{Client}
 use Rattle.qx_isolation.specs.declared.rows.Held.{Held}
@@ -245,7 +244,7 @@ module _ (P : ℕ → Part → (Client → ℕ) → Type 0) (keeps : IsKeptWith 
     boot-none : (user : ℕ) (own : Client) → pulses user (boot config) own ≡ 0
     unfolding system.boot
     boot-none user own =
-        let lines = sum_by-replicate (λ line. count_by (is_queued_pulse user own) line) COUNT [] in
+        let lines = sum_by-replicate (λ line. count_by (is_queued_pulse user own) line) manager_count [] in
         let hands = none_held config.workers in
         let first = count-cons (is_held_pulse user own) None (replicate config.workers None) in
         omega (arith, lines, hands, first)

@@ -4,11 +4,11 @@ use Rattle.std.specs.Prelude.{◌||◌, ◌==◌, Option, Some, None, if◌then�
 use Rattle.std.specs.List.{list_any}
 use Rattle.std.proofs.Math.ListN.{length-set}
 use Rattle.std.proofs.lemmas.Bool.{cond_both, eq-eqb}
+use Rattle.std.proofs.lemmas.List.{length-replicate}
 use Rattle.std.proofs.lemmas.List.Quantifiers.{position-Some}
 use Rattle.std.proofs.lemmas.Option.{unwrap_or-slice_get}
-use Rattle.qx_types.specs.Managers.{manager_number}
+use Rattle.qx_types.specs.Managers.{manager_count, manager_number}
 use Rattle.qx_types.specs.declared.names.Manager.{Manager}
-use Rattle.qx_types.specs.declared.names.TheConstants.Manager.{COUNT}
 use Rattle.qx_types.proofs.Managers.{number_below}
 use Rattle.qx_machine.specs.declared.rows.Connection.{Connection}
 use Rattle.qx_machine.specs.declared.rows.Effect.{Effect}
@@ -21,9 +21,10 @@ use Rattle.qx_machine.specs.declared.rows.ThreadRow.{ThreadRow}
 use Rattle.qx_isolation.specs.Lines.{line_at}
 use Rattle.qx_machine.specs.Processes.{Process, after_effect, after_error, after_reply, ended, new_process, servers_at, with_over, with_thread, without_server}
 use Rattle.qx_isolation.specs.Rows.{lowest_from, put_row, row_at}
-use Rattle.qx_machine.specs.Servers.{Servers, connects, in_use, is_attached, is_in_use, leaving, new_server, servers_from, servers_while, sides_with}
+use Rattle.qx_machine.specs.Servers.{Servers, connects, in_use, is_attached, is_in_use, leaving, new_server, no_servers, servers_from, servers_while, sides_with}
 use Rattle.qx_isolation.proofs.Places.{at-map, lowest_from_free}
 use Rattle.qx_attr.proofs.TableLemmas.{row-put}
+use Rattle.qx_process.proofs.AttachLemmas.{new-settled}
 use Rattle.qx_process.proofs.ServerLemmas.{attached-with_block, from-freed, served_while, servers_from_again}
 
 -- what is attached to a process
@@ -32,7 +33,7 @@ attached process number = is_attached number process.connections process.sides
 
 -- at each manager a server connection is in use exactly while something is attached there
 pub record IsServed (process : Process) : Type 0 where
-  pub count : length process.servers ≡ COUNT
+  pub count : length process.servers ≡ manager_count
   pub settled : process.servers ≡ servers_from (attached process) 0 process.servers
 
 -- a process has a server connection of that number at a manager
@@ -152,7 +153,7 @@ freed_served process server h = record {
 -- ---- a new process
 
 pub new_served : (threads prio : ℕ) → IsServed (new_process threads prio)
-new_served threads prio = record { count = refl; settled = refl }
+new_served threads prio = record { count = length-replicate manager_count no_servers; settled = new-settled manager_count 0 }
 
 -- ---- what is attached is served
 

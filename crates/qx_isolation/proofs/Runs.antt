@@ -7,9 +7,9 @@ use Rattle.qx_types.specs.Configuration.{Configuration}
 use Rattle.qx_types.specs.declared.step.Step.{Step}
 use Rattle.qx_isolation.specs.declared.rows.Entry.{Entry}
 use Rattle.qx_isolation.specs.System.{IsInOrder, own_entries}
-use Rattle.qx_isolation.specs.System.{Behaviour, boot, boot_parts, entries_from, erase, erase_from, is_owner, own_hand, owner, rank, received, run, seen_by, step, view, World, world_after}
+use Rattle.qx_isolation.specs.System.{Behaviour, boot, boot_parts, entries_from, erase, erase_from, is_owner, own_hand, own_line, owner, rank, received, run, seen_by, step, view, World, world_after}
 use Rattle.qx_types.specs.Step.{actor_of}
-use Rattle.qx_types.specs.declared.names.TheConstants.Manager.{COUNT}
+use Rattle.qx_types.specs.Managers.{manager_count}
 use Rattle.qx_isolation.proofs.Orders.{in_order_none}
 use Rattle.qx_isolation.proofs.Places.{set-row_at}
 use Rattle.qx_isolation.proofs.Steps.{reached_step, step_own, step_other, owner_own, seen_other}
@@ -20,11 +20,15 @@ module _ {Part : Type 0} (b : Behaviour Part) where
 
   reached_boot : (config : Configuration) → IsReached (boot b config)
   unfolding boot
-  reached_boot config = record { lines = All-replicate (IsInOrder rank) COUNT [] (in_order_none rank); parts = refl }
+  reached_boot config = record { lines = All-replicate (IsInOrder rank) manager_count [] (in_order_none rank); parts = refl }
 
 own_hand-replicate : (user workers : ℕ) → map (own_hand user) (replicate workers None) ≡ replicate workers None
 own_hand-replicate user zero = refl
 own_hand-replicate user (suc workers) = ap (λ hands. None ∷ hands) (own_hand-replicate user workers)
+
+own_line-replicate : (user lines : ℕ) → map (own_line user) (replicate lines []) ≡ replicate lines []
+own_line-replicate user zero = refl
+own_line-replicate user (suc lines) = ap (λ rest. [] ∷ rest) (own_line-replicate user lines)
 
 module _ {Part : Type 0} (b : Behaviour Part) where
   view-boot : (user : ℕ) (config : Configuration) → view user (boot b config) ≡ boot b config
@@ -32,7 +36,7 @@ module _ {Part : Type 0} (b : Behaviour Part) where
   view-boot user config = λ i. record {
     config = config;
     parts = set-row_at (None ∷ boot_parts b config 1 config.users) user i;
-    lines = replicate COUNT [];
+    lines = own_line-replicate user manager_count i;
     hands = None ∷ own_hand-replicate user config.workers i;
   }
 

@@ -2,9 +2,8 @@
 -- the workers, what each step does to them, and runs.
 use Rattle.std.specs.Prelude.{◌≡◌, ℕ, ◌≤◌, ◌+◌, ◌==◌, ◌&&◌, Bool, true, false, AllPairs, List, [], ◌∷◌, ◌++◌, Option, Some, None, Result, Ok, Err, drop, is_none, nat_le, if◌then◌else◌, slice_get, slice_set, filter, map, replicate}
 use Rattle.qx_types.specs.Configuration.{Configuration}
-use Rattle.qx_types.specs.Managers.{manager_number}
+use Rattle.qx_types.specs.Managers.{manager_count, manager_number}
 use Rattle.qx_types.specs.Step.{actor_of, user_of}
-use Rattle.qx_types.specs.declared.names.TheConstants.Manager.{COUNT}
 use Rattle.qx_types.specs.declared.names.Actor.{Actor}
 use Rattle.qx_types.specs.declared.names.Item.{Item}
 use Rattle.qx_types.specs.declared.names.Item.TheVariants as public
@@ -139,7 +138,7 @@ unfoldable pub boot : {Part : Type 0} (b : Behaviour Part) → Configuration →
 boot b config = record {
   config = config;
   parts = None ∷ boot_parts b config 1 config.users;
-  lines = replicate COUNT [];
+  lines = replicate manager_count [];
   hands = None ∷ replicate config.workers None;
 }
 

@@ -2,10 +2,9 @@
 use Rattle.std.specs.Prelude.{ℕ, Bool, false, true, ◌+◌, ◌==◌, ◌&&◌, List, [], ◌∷◌, Option, Some, None, if◌then◌else◌, is_none, is_some, length, map, nat_le, option_map, replicate, slice_set}
 use Rattle.std.specs.List.{flat_map, list_any}
 use Rattle.qx_bytes.specs.declared.message.TheConstants.MessageBytes.{INLINE}
-use Rattle.qx_types.specs.Managers.{manager_number, managers}
+use Rattle.qx_types.specs.Managers.{manager_count, manager_number, managers}
 use Rattle.qx_types.specs.declared.limits.TheConstants.Limits.{FIRST_CONNECTION, THREADS}
 use Rattle.qx_types.specs.declared.names.Manager.{Manager}
-use Rattle.qx_types.specs.declared.names.TheConstants.Manager.{COUNT}
 use Rattle.qx_types.specs.declared.outcome.Answer.{Answer}
 use Rattle.qx_types.specs.declared.outcome.Answer.TheVariants.{Failed, Reply}
 use Rattle.qx_machine.specs.declared.rows.Connection.{Connection}
@@ -45,7 +44,7 @@ new_process threads prio = record {
   threads = None ∷ replicate threads (Some (new_thread prio));
   connections = replicate FIRST_CONNECTION None;
   sides = no_sides;
-  servers = replicate COUNT no_servers;
+  servers = replicate manager_count no_servers;
   held = [];
 }
 

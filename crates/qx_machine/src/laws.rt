@@ -5,8 +5,7 @@ ghost use Rattle.std.specs.Cmp.Lexicographic.{slice_cmp};
 ghost use Rattle.std.specs.List.Sorted.{IsStrictlySortedBy};
 ghost use Rattle.std.specs.Ordering.{nat_cmp};
 ghost use Rattle.qx_types.specs.Configuration.{Configuration};
-ghost use Rattle.qx_types.specs.Managers.{manager_number, managers};
-ghost use Rattle.qx_types.specs.declared.names.TheConstants.Manager.{COUNT};
+ghost use Rattle.qx_types.specs.Managers.{manager_count, manager_number, managers};
 ghost use Rattle.qx_types.specs.declared.names.Manager.{Manager};
 ghost use Rattle.qx_types.specs.declared.step.Step.{Step};
 ghost use Rattle.qx_machine.specs.declared.rows.Conditions.{Conditions};
@@ -111,7 +110,7 @@ pub fn lines_in_order()
 pub fn managers_apart()
     ensures there { (manager : Manager) → slice_get managers (manager_number manager) ≡ Some manager }
     ensures apart { (one other : Manager) → manager_number one ≡ manager_number other → one ≡ other }
-    ensures all { length managers ≡ COUNT }
+    ensures all { length managers ≡ manager_count }
 {}
 
 /// The lowest free number from a first one on.

@@ -6,11 +6,11 @@ use Rattle.std.proofs.lemmas.Grind.{common_steps}
 use Rattle.std.proofs.lemmas.List.{length-replicate, length-set}
 use Rattle.std.proofs.lemmas.List.Sums.{sum_by-cons}
 use Rattle.qx_types.specs.Configuration.{Configuration}
-use Rattle.qx_types.specs.Managers.{manager_number, managers}
+use Rattle.qx_types.specs.Managers.{manager_count, manager_number, managers}
+use Rattle.qx_types.proofs.Managers.{count_managers, number_at}
 use Rattle.qx_types.specs.Step.{actor_of, user_of}
 use Rattle.qx_types.specs.declared.names.Actor.{Actor}
 use Rattle.qx_types.specs.declared.names.Manager.{Manager}
-use Rattle.qx_types.specs.declared.names.TheConstants.Manager.{COUNT}
 use Rattle.qx_types.specs.declared.step.Step.{Step}
 use Rattle.qx_types.specs.declared.step.Step.TheVariants.{Receive, Perform}
 use Rattle.qx_isolation.specs.declared.rows.Held.{Held}
@@ -32,7 +32,7 @@ use Rattle.qx_play.specs.Play.{first_worker, items_waiting, round, rounds, world
 pub record Keeps (w : World) (workers : ℕ) : Type 0 where
   pub same : w.config.workers ≡ workers
   pub hands : length w.hands ≡ workers + 1
-  pub lines : length w.lines ≡ COUNT
+  pub lines : length w.lines ≡ manager_count
 
 lines_kept : (user : ℕ) (lines : List (List Queued)) (changes : List Change) → length (lines_after user lines changes) ≡ length lines
 lines_kept user lines [] = refl
@@ -199,24 +199,9 @@ next_among w (manager ∷ others) items e =
     next_here w manager others (line_of w manager) refl
     (λ none. next_among w others items (omega (arith, none, e, sum_by-cons length (line_of w manager) (map (line_of w) others))))
 
--- a manager's number is its place among all
-numbered : (among : List Manager) (from number : ℕ) (manager : Manager) → map manager_number among ≡ range_with_len from (length among)
-    → slice_get among number ≡ Some manager → manager_number manager ≡ from + number
-numbered [] from number manager each e = cc
-numbered (first ∷ others) from zero manager each e =
-    let same : first ≡ manager = cc in
-    let first_number : manager_number first ≡ from = cc in
-    sym (ap manager_number same) ∙ first_number ∙ omega arith
-numbered (first ∷ others) from (suc number) manager each e =
-    let later : map manager_number others ≡ range_with_len (from + 1) (length others) = cc in
-    numbered others (from + 1) number manager later e ∙ omega arith
-
-number_of : (number : ℕ) (manager : Manager) → slice_get managers number ≡ Some manager → manager_number manager ≡ number
-number_of number manager e = numbered managers 0 number manager refl e ∙ omega arith
-
 -- each manager's line stands under the manager's place among all
 line_under : (w : World) (number : ℕ) (manager : Manager) → slice_get managers number ≡ Some manager → line_at w.lines number ≡ line_of w manager
-line_under w number manager e = ap (line_at w.lines) (sym (number_of number manager e))
+line_under w number manager e = ap (line_at w.lines) (sym (number_at number manager e))
 
 line_of_each_among : (w : World) (among : List Manager) (lines : List (List Queued)) → length lines ≡ length among
     → ((number : ℕ) (manager : Manager) → slice_get among number ≡ Some manager → line_at lines number ≡ line_of w manager) → map (line_of w) among ≡ lines
@@ -228,8 +213,8 @@ line_of_each_among w (manager ∷ others) (line ∷ lines) e each =
     let rest = line_of_each_among w others lines (omega (arith, e)) (λ number other found. each (suc number) other found) in
     λ i. sym first i ∷ rest i
 
-line_of_each : (w : World) → length w.lines ≡ COUNT → map (line_of w) managers ≡ w.lines
-line_of_each w all = line_of_each_among w managers w.lines all (line_under w)
+line_of_each : (w : World) → length w.lines ≡ manager_count → map (line_of w) managers ≡ w.lines
+line_of_each w all = line_of_each_among w managers w.lines (all ∙ sym count_managers) (line_under w)
 
 -- where items wait, one of them is next
 some_next : (n : ℕ) (w : World) (items : ℕ) → Keeps w n → items_waiting w ≡ suc items → Next w managers
@@ -278,7 +263,7 @@ all_rounds (suc left) n config moment steps some k free few = elim (some_or_none
 
 booted : (config : Configuration) → Keeps (boot config) config.workers
 unfolding system.boot
-booted config = record { same = refl; hands = simp length-replicate (omega arith); lines = refl }
+booted config = record { same = refl; hands = simp length-replicate (omega arith); lines = length-replicate manager_count [] }
 
 pub keeps_all : (config : Configuration) (steps : List Step) → Keeps (world_played config steps) config.workers
 keeps_all config steps = kept_after config.workers (boot config) steps (booted config)

@@ -2,7 +2,7 @@
 
 ghost use Rattle.std.specs.Prelude.{◌≡◌, ◌≤◌, ◌<◌, ◌^◌, ◌++◌, ◌∷◌, [], ℕ, List, IfOk, OnOk, length};
 ghost use Rattle.qx_types.specs.Configuration.{Configuration};
-ghost use Rattle.qx_types.specs.declared.names.TheConstants.Manager.{COUNT};
+ghost use Rattle.qx_types.specs.Managers.{manager_count};
 ghost use Rattle.qx_types.specs.declared.step.Step.{Step};
 ghost use Rattle.qx_isolation.specs.Lines.{line_at};
 ghost use Rattle.qx_machine.specs.Runs.{erase, received, run};
@@ -165,12 +165,12 @@ fn serve_waiting(traced: &mut Traced, moment: u64) -> Result<(), NoMemory>
 
 /// How many items wait in all lines.
 fn waiting(world: &World) -> u128
-    requires { length world.now.lines ≡ COUNT }
+    requires { length world.now.lines ≡ manager_count }
     ensures number { result ≡ play.items_waiting world.now }
     ensures few { result < 2 ^ 127 }
 {
     let mut waiting = 0;
-    'lines: for number in 0..Manager::COUNT {
+    'lines: for number in 0..Manager::count() {
         waiting += waiting_at(world, number) as u128;
     }
     waiting
@@ -178,7 +178,7 @@ fn waiting(world: &World) -> u128
 
 /// How many items wait in the line under a number.
 fn waiting_at(world: &World, number: usize) -> usize
-    requires { length world.now.lines ≡ COUNT }
+    requires { length world.now.lines ≡ manager_count }
     ensures { result ≡ length (line_at world.now.lines number) }
 {
     match Manager::of_number(number) {

@@ -1,5 +1,5 @@
 -- What a process uses and loses as something is attached to a manager, or goes from there.
-use Rattle.std.proofs.Common.{inl, inr, ◌≡◌, ◌≢◌, ◌<◌, ◌+◌, ℕ, zero, suc, List, [], ◌∷◌, ◌++◌, length, get_or, set, refl, sym, ap, ◌∙◌, arith, Bool, true, false, Option, Some, None, IfSome, subst}
+use Rattle.std.proofs.Common.{inl, inr, ◌≡◌, ◌≢◌, ◌<◌, ◌+◌, ℕ, zero, suc, List, [], ◌∷◌, ◌++◌, length, get_or, replicate, set, refl, sym, ap, ◌∙◌, arith, Bool, true, false, Option, Some, None, IfSome, subst}
 use Rattle.std.specs.Prelude.{◌||◌, ◌&&◌, ◌==◌, is_some, not}
 use Rattle.std.specs.List.{flat_map, list_any}
 use Rattle.std.specs.Option.{option_to_list}
@@ -8,15 +8,14 @@ use Rattle.std.proofs.lemmas.Bool.{false≢true}
 use Rattle.std.proofs.lemmas.Bool.Decides.{eqb_tells}
 use Rattle.std.proofs.lemmas.List.{append-nil, length-set, set-get_or}
 use Rattle.std.proofs.lemmas.Grind.{common_steps}
-use Rattle.qx_types.specs.Managers.{manager_number, managers}
+use Rattle.qx_types.specs.Managers.{manager_count, manager_number, managers}
 use Rattle.qx_types.specs.declared.names.Manager.{Manager}
-use Rattle.qx_types.specs.declared.names.TheConstants.Manager.{COUNT}
 use Rattle.qx_machine.specs.declared.rows.Connection.{Connection}
 use Rattle.qx_isolation.specs.declared.rows.ServerName.{ServerName}
 use Rattle.qx_isolation.specs.Lines.{line_at, with_line}
-use Rattle.qx_machine.specs.Processes.{Process, servers_at}
+use Rattle.qx_machine.specs.Processes.{Process, no_sides, servers_at}
 use Rattle.qx_isolation.specs.Rows.{put_row, row_at}
-use Rattle.qx_machine.specs.Servers.{Servers, connects, in_use, is_attached, lost_by, servers_from, servers_while, sides_with}
+use Rattle.qx_machine.specs.Servers.{Servers, connects, no_servers, in_use, is_attached, lost_by, servers_from, servers_while, sides_with}
 use Rattle.qx_process.specs.Reads.{HasPlace, Loses, Uses, is_at, is_served}
 use Rattle.qx_types.proofs.Managers.{at_one, number_below}
 use Rattle.qx_process.proofs.RowLemmas.{row_at-get_or}
@@ -85,11 +84,28 @@ pub put_here : (connections : List (Option Connection)) (sides : List (Option Ma
 put_here connections sides coid connection =
     ap (λ b. b || list_any (sides_with (manager_number connection.manager)) sides) (any_put (connects (manager_number connection.manager)) connections coid connection (same_number (manager_number connection.manager)))
 
+-- nothing is attached in a new process
+pub new-settled : (count number : ℕ) → replicate count no_servers ≡ servers_from (λ number. is_attached number (None ∷ None ∷ None ∷ []) no_sides) number (replicate count no_servers)
+new-settled zero number = refl
+new-settled (suc count) number = ap (λ rest. no_servers ∷ rest) (new-settled count (number + 1))
+
 -- ---- the one that is lost
 
 pub same_lost : (manager : Manager) (number : Option ℕ) → lost_by manager number number ≡ []
 same_lost manager None = refl
 same_lost manager (Some number) = refl
+
+none_lost : (some : List Manager) (used : Manager → Option ℕ) → flat_map (λ one. lost_by one (used one) (used one)) some ≡ []
+none_lost [] used = refl
+none_lost (one ∷ some) used = rw (same_lost one (used one)) (none_lost some used)
+
+-- none is lost where the server connections stay
+pub loses-none : (old new : Process) → new.servers ≡ old.servers → Loses None old new
+loses-none old new same = record {
+  lost_is = (λ i. flat_map (λ one. lost_by one (in_use (line_at old.servers (manager_number one))) (in_use (line_at (same i) (manager_number one)))) managers) ∙ none_lost managers (λ one. in_use (servers_at one old));
+  was_used = tt;
+  uses = λ one. ap (λ servers. is_some (in_use (line_at servers (manager_number one)))) same ∙ sym (and-true _);
+}
 
 only_lost : (manager : Manager) (before after : Manager → Option ℕ) → ((other : Manager) → manager_number other ≢ manager_number manager → after other ≡ before other)
     → flat_map (λ one. lost_by one (before one) (after one)) managers ≡ lost_by manager (before manager) (after manager)
@@ -128,7 +144,7 @@ lost_used manager None after (Some server) Holds used is = absurd (cc)
 
 -- ---- what becomes of the server connections
 
-module _ (manager : Manager) (all : List Servers) (before after : ℕ → Bool) (count : length all ≡ COUNT) (settled : all ≡ servers_from before 0 all) (elsewhere : (number : ℕ) → number ≢ manager_number manager → after number ≡ before number) where
+module _ (manager : Manager) (all : List Servers) (before after : ℕ → Bool) (count : length all ≡ manager_count) (settled : all ≡ servers_from before 0 all) (elsewhere : (number : ℕ) → number ≢ manager_number manager → after number ≡ before number) where
   here : manager_number manager < length all
   here = let within = number_below manager in omega (arith, within, count)
 
@@ -178,7 +194,7 @@ module _ (manager : Manager) (all : List Servers) (before after : ℕ → Bool) 
         ];
       }
 
-  pub stays_settled : (new : List Servers) → new ≡ with_line all (manager_number manager) (servers_while (after (manager_number manager))) → (new ≡ servers_from after 0 new) × (length new ≡ COUNT)
+  pub stays_settled : (new : List Servers) → new ≡ with_line all (manager_number manager) (servers_while (after (manager_number manager))) → (new ≡ servers_from after 0 new) × (length new ≡ manager_count)
   stays_settled new is = rw is (settled_again, length-set all (manager_number manager) _ ∙ count)
 
 -- ---- a connection that is there
@@ -189,22 +205,22 @@ any_there p (place ∷ connections) zero none is = ap (λ b. b || list_any p con
 any_there p (place ∷ connections) (suc coid) none is = ap (λ b. p place || b) (any_there p connections coid none is) ∙ or-true (p place)
 
 -- its manager is served
-pub connection_served : (process : Process) (coid : ℕ) (connection : Connection) → process.servers ≡ servers_from (λ number. is_attached number process.connections process.sides) 0 process.servers → length process.servers ≡ COUNT
+pub connection_served : (process : Process) (coid : ℕ) (connection : Connection) → process.servers ≡ servers_from (λ number. is_attached number process.connections process.sides) 0 process.servers → length process.servers ≡ manager_count
     → row_at process.connections coid ≡ Some connection → is_served connection.manager process ≡ true
 connection_served process coid connection settled count is =
     let number = manager_number connection.manager in
     let within = number_below connection.manager in
-    let place : length process.servers ≡ COUNT = count in
+    let place : length process.servers ≡ manager_count = count in
     let there : connects number (get_or process.connections coid None) ≡ true = ap (connects number) (sym (row_at-get_or process.connections coid) ∙ is) ∙ same_number number in
     served_while (λ number. is_attached number process.connections process.sides) number process.servers (omega (arith, within, place)) settled
     ∙ ap (λ b. b || list_any (sides_with number) process.sides) (any_there (connects number) process.connections coid refl there)
 
-pub side_served : (process : Process) (thread : ℕ) (manager : Manager) → process.servers ≡ servers_from (λ number. is_attached number process.connections process.sides) 0 process.servers → length process.servers ≡ COUNT
+pub side_served : (process : Process) (thread : ℕ) (manager : Manager) → process.servers ≡ servers_from (λ number. is_attached number process.connections process.sides) 0 process.servers → length process.servers ≡ manager_count
     → row_at process.sides thread ≡ Some manager → is_served manager process ≡ true
 side_served process thread manager settled count is =
     let number = manager_number manager in
     let within = number_below manager in
-    let place : length process.servers ≡ COUNT = count in
+    let place : length process.servers ≡ manager_count = count in
     let there : sides_with number (get_or process.sides thread None) ≡ true = ap (sides_with number) (sym (row_at-get_or process.sides thread) ∙ is) ∙ same_number number in
     served_while (λ number. is_attached number process.connections process.sides) number process.servers (omega (arith, within, place)) settled
     ∙ ap (λ b. list_any (connects number) process.connections || b) (any_there (sides_with number) process.sides thread refl there) ∙ or-true _

@@ -6,12 +6,12 @@ use Rattle.std.specs.Option.{option_to_list}
 use Rattle.std.proofs.Math.Bool.{or-false}
 use Rattle.std.proofs.lemmas.Bool.{eq-eqb}
 use Rattle.std.proofs.lemmas.Bool.Decides.{eqb_tells}
-use Rattle.std.proofs.lemmas.List.{append-nil, drop_all, get_or-map, get_or-set_other, get_or-set_same, length-set, take_all}
+use Rattle.std.proofs.Math.Seq.{get_or-append_seam}
+use Rattle.std.proofs.lemmas.List.{append-nil, drop_all, get_or-map, get_or_append_left, length-append, length-set, take_all}
 use Rattle.std.proofs.lemmas.List.Folds.{flat_map-map}
 use Rattle.std.proofs.lemmas.Option.{slice_get-map}
-use Rattle.qx_types.specs.Managers.{manager_number, managers}
+use Rattle.qx_types.specs.Managers.{manager_count, manager_number, managers}
 use Rattle.qx_types.specs.declared.names.Manager.{Manager}
-use Rattle.qx_types.specs.declared.names.TheConstants.Manager.{COUNT}
 use Rattle.qx_isolation.specs.declared.rows.ServerName.{ServerName}
 use Rattle.qx_isolation.specs.Lines.{line_at, with_line}
 use Rattle.qx_machine.specs.Processes.{Process, no_sides, servers_at}
@@ -66,10 +66,10 @@ lost-one manager (Some server) (Some number) is = let same : server ≡ named ma
 -- those at the managers below a number are left, and are what is lost
 pub record LeftBelow (number : ℕ) (all servers : List Servers) (lost : List (Option ServerName)) : Type 0 where
   pub servers_are : servers ≡ left_below number all
-  pub places : length lost ≡ COUNT
+  pub places : length lost ≡ number
   pub lost_are : (manager : Manager) → manager_number manager < number → row_at lost (manager_number manager) ≡ option_map (named manager) (in_use (line_at all (manager_number manager)))
 
-module _ (number : ℕ) (all servers new : List Servers) (lost : List (Option ServerName)) (one : Option ServerName) (manager : Manager) (below : LeftBelow number all servers lost) (count : length all ≡ COUNT) (few : number < COUNT) (is : manager_number manager ≡ number)
+module _ (number : ℕ) (all servers new : List Servers) (lost : List (Option ServerName)) (one : Option ServerName) (manager : Manager) (below : LeftBelow number all servers lost) (count : length all ≡ manager_count) (few : number < manager_count) (is : manager_number manager ≡ number)
     (settled : new ≡ with_line servers (manager_number manager) left) (gives : option_to_list one ≡ lost_by manager (in_use (line_at servers (manager_number manager))) (in_use (line_at new (manager_number manager)))) where
   here : number < length all
   here = omega (arith, few, count)
@@ -89,20 +89,17 @@ module _ (number : ℕ) (all servers new : List Servers) (lost : List (Option Se
   one_is : one ≡ option_map (named manager) (in_use (line_at all (manager_number manager)))
   one_is = lost-one manager one _ (gives ∙ ap₂ (lost_by manager) read_old read_new)
 
-  lost_here : number < length lost
-  lost_here = let places = below.places in omega (arith, few, places)
-
-  pub leaves-one : LeftBelow (number + 1) all new (set lost number one)
+  pub leaves-one : LeftBelow (number + 1) all new (lost ++ one ∷ [])
   leaves-one = record {
     servers_are = new_are ∙ left-more number all here ∙ ap (λ n. left_below n all) (sym (add-one number));
-    places = length-set lost number one ∙ below.places;
+    places = length-append lost (one ∷ []) ∙ ap (λ n. n + 1) below.places;
     lost_are = λ other within. elim (eqb_tells (manager_number other) number) [
       | inl same ↦
           let own : other ≡ manager = same_manager other manager (same.1 ∙ sym is) in
-          rw (own, is) (row_at-get_or (set lost number one) number ∙ get_or-set_same lost number one None lost_here ∙ one_is ∙ ap (λ at. option_map (named manager) (in_use (line_at all at))) is)
+          rw (own, is) (row_at-get_or (lost ++ one ∷ []) number ∙ ap (λ n. get_or (lost ++ one ∷ []) n None) (sym below.places) ∙ get_or-append_seam lost one [] None ∙ one_is ∙ ap (λ at. option_map (named manager) (in_use (line_at all at))) is)
       | inr differs ↦
           let earlier : manager_number other < number = let apart = differs.1 in omega (arith, within, apart) in
-          row_at-get_or (set lost number one) (manager_number other) ∙ get_or-set_other lost number (manager_number other) one None differs.1 ∙ sym (row_at-get_or lost (manager_number other)) ∙ below.lost_are other earlier
+          row_at-get_or (lost ++ one ∷ []) (manager_number other) ∙ get_or_append_left lost (one ∷ []) None (manager_number other) (let places = below.places in omega (arith, earlier, places)) ∙ sym (row_at-get_or lost (manager_number other)) ∙ below.lost_are other earlier
     ];
   }
 
@@ -129,7 +126,7 @@ at_other : (manager other : Manager) (number : Option ℕ) → manager_number ot
 at_other manager other None differs = refl
 at_other manager other (Some number) differs = differs_by (manager_number manager) (manager_number other) (λ is. differs (sym is))
 
-module _ (before after : Process) (count : length before.servers ≡ COUNT) (is_left : after.servers ≡ map left before.servers) where
+module _ (before after : Process) (count : length before.servers ≡ manager_count) (is_left : after.servers ≡ map left before.servers) where
   none-used : (manager : Manager) → in_use (servers_at manager after) ≡ None
   none-used manager =
       let here : manager_number manager < length before.servers = let within = number_below manager in omega (arith, within, count) in
@@ -167,6 +164,6 @@ module _ (before after : Process) (count : length before.servers ≡ COUNT) (is_
           (λ other rest differs. rw (at_other manager other (in_use (servers_at other before)) differs) refl)
           ∙ rw (at_own manager (in_use (servers_at manager before))) (or-false (is_served manager before)))
 
-  pub loses-all : (lost : List (Option ServerName)) → length lost ≡ COUNT → ((manager : Manager) → row_at lost (manager_number manager) ≡ option_map (named manager) (in_use (servers_at manager before))) → LosesAll lost before after
+  pub loses-all : (lost : List (Option ServerName)) → length lost ≡ manager_count → ((manager : Manager) → row_at lost (manager_number manager) ≡ option_map (named manager) (in_use (servers_at manager before))) → LosesAll lost before after
   loses-all lost places at =
       rw (by_managers None lost lost_at places (λ manager. sym (row_at-get_or lost (manager_number manager)) ∙ at manager)) all-lost

@@ -1,5 +1,5 @@
 -- Tables of rows: what a change of one row, and the search for a free number, come to.
-use Rattle.std.proofs.Common.{◌≡◌, ℕ, ◌<◌, List, length, get_or, refl, sym, ◌∙◌, ap, arith, Option, Some, None}
+use Rattle.std.proofs.Common.{◌≡◌, ℕ, zero, suc, ◌<◌, List, [], ◌∷◌, length, get_or, refl, sym, ◌∙◌, ap, arith, Option, Some, None}
 use Rattle.std.specs.List.{refill}
 use Rattle.std.proofs.Math.ListN.{set, length-set}
 use Rattle.std.proofs.lemmas.Grind.{common_steps}
@@ -48,3 +48,9 @@ thread_absent process thread f is = ap (λ threads. record process { threads = t
 -- a thread's row that is left as it was changes nothing in the process
 pub thread_put_back : (process : Process) (thread : ℕ) (row : ThreadRow) → row_at process.threads thread ≡ Some row → put_thread thread row process ≡ process
 thread_put_back process thread row is = rw (set-row process.threads thread row is) refl
+
+-- what is read at a place that is there is the same, whatever stands for one that is not
+pub same_default : {A : Type 0} (rows : List A) (place : ℕ) (one other : A) → place < length rows → get_or rows place one ≡ get_or rows place other
+same_default [] place one other within = absurd (omega arith)
+same_default (row ∷ rows) zero one other within = refl
+same_default (row ∷ rows) (suc place) one other within = same_default rows place one other (omega (arith, within))

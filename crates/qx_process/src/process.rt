@@ -1,4 +1,4 @@
-ghost use Rattle.std.specs.Prelude.{IsSome, ◌≡◌, ◌+◌, ◌≤◌, count_by, is_some, length, IfSome, IsOk, IsTrue, OnSome, OnOk, OnErr, Some, None, true, vec_capacity};
+ghost use Rattle.std.specs.Prelude.{IsSome, ◌≡◌, ◌+◌, ◌≤◌, count_by, is_some, length, IfOk, IfSome, IsOk, IsTrue, OnSome, OnOk, OnErr, Some, None, true, vec_capacity};
 ghost use Rattle.std.specs.Option.{option_copied, option_copied_mut};
 ghost use Rattle.std.specs.Borrow.{sem};
 ghost use Rattle.qx_bytes.specs.Memory.{Leave};
@@ -38,32 +38,32 @@ pub struct Process {
 impl Model for Process {
     ghost use Rattle.std.specs.Prelude.{◌≡◌, length};
     ghost use Rattle.qx_machine.specs.Processes as machine;
-    ghost use Rattle.qx_types.specs.declared.names.TheConstants.Manager.{COUNT};
+    ghost use Rattle.qx_types.specs.Managers.{manager_count};
     ghost use Rattle.qx_machine.specs.Servers.{is_attached, servers_from};
 
     ghost Value = { machine.Process };
 
     ghost view = { λ p. record { threads = p.threads.items; connections = p.connections.items; sides = p.sides; servers = p.servers.items; held = p.held.items } };
 
-    ghost invariant = { λ p. (p.servers.items ≡ servers_from (λ number. is_attached number p.connections.items p.sides) 0 p.servers.items) × (length p.servers.items ≡ COUNT) };
+    ghost invariant = { λ p. (p.servers.items ≡ servers_from (λ number. is_attached number p.connections.items p.sides) 0 p.servers.items) × (length p.servers.items ≡ manager_count) };
 }
 
 impl Process {
     ghost use Rattle.qx_process.specs.Lends.{lends_thread, lends_thread_there};
 
     /// A process with so many ready threads, and nothing attached.
-    pub fn new(threads: u8, prio: Prio) -> Self
+    pub fn new(alloc: Global, threads: u8, prio: Prio) -> Result<Self, AllocError>
         requires threads { threads ≤ THREADS }
         requires priority { IsPriority prio.0 }
-        ensures process { result ≡ machine.new_process threads prio.0 }
+        ensures process { IfOk result (λ process. process ≡ machine.new_process threads prio.0) }
     {
-        Process {
+        Ok(Process {
             threads: threads::new_threads(threads, prio),
             connections: connections::no_connections(),
             sides: [None; PLACES],
-            servers: servers::no_servers(),
+            servers: servers::no_servers(alloc)?,
             held: ArrayVec::new(),
-        }
+        })
     }
 
     /// A thread; none where it is not there.
@@ -385,7 +385,7 @@ impl Process {
     /// their disconnect pulses are to be made.
     pub fn end(&mut self, alloc: Global) -> LostServers
         ensures process { self.new ≡ machine.ended self.old }
-        ensures lost { LosesAll result self.old self.new }
+        ensures lost { LosesAll result.items self.old self.new }
     {
         self.held = threads::end(&mut self.threads, alloc);
         self.connections.clear();

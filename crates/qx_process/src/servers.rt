@@ -1,12 +1,11 @@
 //! The server connections of a process at each manager, and the side connections of its threads.
 
-ghost use Rattle.std.specs.Prelude.{◌≡◌, ◌+◌, ◌≤◌, IsTrue, None, count_by, is_some, length, map, option_map, replicate, slice_set};
+ghost use Rattle.std.specs.Prelude.{◌≡◌, ◌+◌, ◌≤◌, IfOk, IsTrue, None, count_by, is_some, length, map, option_map, replicate, slice_set};
 ghost use Rattle.std.specs.List.{list_any};
 ghost use Rattle.std.specs.Option.{option_to_list};
-ghost use Rattle.qx_types.specs.Managers.{manager_number};
+ghost use Rattle.qx_types.specs.Managers.{manager_count, manager_number};
 ghost use Rattle.qx_types.specs.declared.limits.TheConstants.Limits.{SERVERS};
 ghost use Rattle.qx_types.specs.declared.names.Manager.{Manager as TheManager};
-ghost use Rattle.qx_types.specs.declared.names.TheConstants.Manager.{COUNT};
 ghost use Rattle.qx_isolation.specs.Lines.{line_at, with_line};
 ghost use Rattle.qx_isolation.specs.Rows.{lowest_from, put_row, row_at};
 ghost use Rattle.qx_machine.specs.Servers as machine;
@@ -16,12 +15,14 @@ use crate::{places, threads};
 use arrayvec::ArrayVec;
 use qx_machine::{Connection, ServerConnection, ServerName};
 use qx_types::{Limits, Manager};
+use std::alloc::{AllocError, Global};
 use std::marker::Model;
 
 /// A place for each number up to the last; place 0 is no server connection's.
 const PLACES: usize = Limits::SERVERS + 1;
 
-const MANAGERS: usize = Manager::COUNT;
+/// Room for each manager that there can be.
+const MANAGERS: usize = Manager::MOST;
 
 /// The server connections of a process at one manager.
 #[derive(Drop)]
@@ -43,23 +44,24 @@ impl Model for Servers {
 }
 
 /// Those at each manager.
-pub type AllServers = ArrayVec<Servers, MANAGERS>;
+pub type AllServers = Vec<Servers>;
 
 /// The server connection that was lost at each manager, under its number.
-pub type LostServers = [Option<ServerName>; MANAGERS];
+pub type LostServers = ArrayVec<Option<ServerName>, MANAGERS>;
 
 /// At which manager each thread has a side connection.
 pub type Sides = [Option<Manager>; threads::PLACES];
 
 /// None at any manager.
-pub fn no_servers() -> AllServers
-    ensures none { result.items ≡ replicate COUNT machine.no_servers }
+pub fn no_servers(alloc: Global) -> Result<AllServers, AllocError>
+    ensures none { IfOk result (λ servers. servers.items ≡ replicate manager_count machine.no_servers) }
 {
-    let mut servers = ArrayVec::new();
-    for _ in 0..MANAGERS {
-        servers.push(Servers::default());
+    let count = Manager::count();
+    let mut servers = Vec::with_capacity(alloc, count)?;
+    for _ in 0..count {
+        servers.push(Servers::default())?;
     }
-    servers
+    Ok(servers)
 }
 
 impl Default for Servers {
@@ -159,7 +161,7 @@ impl Servers {
 
 /// The server connections at a manager.
 pub fn servers_at(servers: &AllServers, manager: Manager) -> &Servers
-    requires all { length servers.now.items ≡ COUNT }
+    requires all { length servers.now.items ≡ manager_count }
     ensures servers { result.now ≡ line_at servers.now.items (manager_number manager) }
 {
     &servers[manager.number()]
@@ -168,7 +170,7 @@ pub fn servers_at(servers: &AllServers, manager: Manager) -> &Servers
 /// At a manager a server connection is used or made while something is attached, and left with the last; gives the one that is
 /// left.
 pub fn settle(servers: &mut AllServers, manager: Manager, is_attached: bool) -> Option<ServerName>
-    requires all { length servers.old.items ≡ COUNT }
+    requires all { length servers.old.items ≡ manager_count }
     requires place { IsTrue is_attached → HasPlace (line_at servers.old.items (manager_number manager)) }
     ensures servers { servers.new.items ≡ with_line servers.old.items (manager_number manager) (machine.servers_while is_attached) }
     ensures lost { option_to_list result ≡ machine.lost_by manager (machine.in_use (line_at servers.old.items (manager_number manager))) (machine.in_use (line_at servers.new.items (manager_number manager))) }
@@ -179,15 +181,15 @@ pub fn settle(servers: &mut AllServers, manager: Manager, is_attached: bool) -> 
 
 /// Those in use at all managers are left, and are given.
 pub fn leave(servers: &mut AllServers) -> LostServers
-    requires all { length servers.old.items ≡ COUNT }
-    ensures places { length result ≡ COUNT }
+    requires all { length servers.old.items ≡ manager_count }
+    ensures places { length result.items ≡ manager_count }
     ensures left { servers.new.items ≡ map (map (option_map machine.leaving)) servers.old.items }
-    ensures lost { (manager : TheManager) → row_at result (manager_number manager) ≡ option_map (named manager) (machine.in_use (line_at servers.old.items (manager_number manager))) }
+    ensures lost { (manager : TheManager) → row_at result.items (manager_number manager) ≡ option_map (named manager) (machine.in_use (line_at servers.old.items (manager_number manager))) }
 {
-    let mut lost = [None; MANAGERS];
-    for number in 0..MANAGERS {
+    let mut lost = ArrayVec::new();
+    for number in 0..servers.len() {
         if let Some(manager) = Manager::of_number(number) {
-            lost[number] = settle(servers, manager, false);
+            lost.push(settle(servers, manager, false));
         }
     }
     lost
@@ -202,7 +204,7 @@ pub fn has_any(servers: &AllServers) -> bool
 
 /// A server connection goes, if it was left.
 pub fn free(servers: &mut AllServers, server: ServerName)
-    requires all { length servers.old.items ≡ COUNT }
+    requires all { length servers.old.items ≡ manager_count }
     ensures servers { servers.new.items ≡ with_line servers.old.items (manager_number server.manager) (machine.without_left server.number) }
 {
     servers[server.manager.number()].free(server.number);

@@ -144,6 +144,7 @@ impl Processes {
     /// as that is (C Library Reference: `spawn`). A spawn that is refused wants no memory.
     pub fn spawn(
         &mut self,
+        alloc: Global,
         limits: &UserLimits,
         threads: u8,
         prio: Prio,
@@ -158,7 +159,7 @@ impl Processes {
         let _ = &self.rows;
         match self.spawn_number(limits, threads, prio) {
             Ok(number) => {
-                self.start(number, threads, prio)?;
+                self.start(alloc, number, threads, prio)?;
                 Ok(Outcome::Spawned(number))
             }
             Err(outcome) => Ok(outcome),
@@ -166,7 +167,7 @@ impl Processes {
     }
 
     /// Starts a process of so many ready threads of a priority under a number.
-    pub fn start(&mut self, number: u8, threads: u8, prio: Prio) -> Result<(), AllocError>
+    pub fn start(&mut self, alloc: Global, number: u8, threads: u8, prio: Prio) -> Result<(), AllocError>
         requires few { number ≤ PROCESSES }
         requires threads { threads ≤ THREADS }
         requires priority { IsPriority prio.0 }
@@ -174,7 +175,10 @@ impl Processes {
         ensures place { 0 < length self.old }
         ensures err { OnErr result (self.new ≡ self.old) }
     {
-        places::put(&mut self.rows, number as usize, Process::new(threads, prio))
+        // there is a place for number 0
+        let _ = &self.rows;
+        let process = Process::new(alloc, threads, prio)?;
+        places::put(&mut self.rows, number as usize, process)
     }
 
     /// A thread gets another priority, from 1 to the user's ceiling (C Library Reference: `SchedSet`). `WrongState` where it is

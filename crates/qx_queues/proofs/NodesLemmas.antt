@@ -7,7 +7,7 @@ use Rattle.std.proofs.lemmas.Grind.{common_steps}
 use Rattle.std.proofs.lemmas.Option.{unwrap_or-slice_get}
 use Rattle.qx_types.specs.declared.limits.TheConstants.Limits.{PROCESSES, THREADS}
 use Rattle.qx_types.specs.declared.names.Proc.{Proc}
-use Rattle.qx_types.specs.declared.names.TheConstants.Manager.{COUNT}
+use Rattle.qx_types.specs.declared.names.TheConstants.Manager.{MOST}
 use Rattle.qx_types.specs.declared.names.Thread.{Thread}
 use Rattle.qx_isolation.specs.Rows.{row_at}
 use Rattle.qx_isolation.proofs.Places.{row_at-set_other}
@@ -196,7 +196,7 @@ pub nodes_at-none : (users : ℕ) (thread : Thread) → nodes_of_thread (no_node
 nodes_at-none users thread = rw (process_at-none users thread.proc) (row_at-none (THREADS + 1) thread.tid)
 
 pub disconnect_at-none : (users : ℕ) (proc : Proc) (number : ℕ) → disconnect_at (no_nodes users) proc number ≡ None
-disconnect_at-none users proc number = rw (process_at-none users proc) (row_at-none COUNT number)
+disconnect_at-none users proc number = rw (process_at-none users proc) (row_at-none MOST number)
 
 pub node_of-none : (users : ℕ) (owner : Owner) → node_of (no_nodes users) owner ≡ None
 node_of-none users (Message thread) = ap (option_map (λ own. own.message)) (nodes_at-none users thread)
@@ -205,6 +205,12 @@ node_of-none users (Disconnect proc number) = disconnect_at-none users proc numb
 
 pub nodes_at-no_user : (nodes : List UserNodes) (thread : Thread) → length nodes ≤ thread.proc.user.0 → nodes_of_thread nodes thread ≡ None
 nodes_at-no_user nodes thread beyond = rw (past nodes thread.proc.user.0 no_process_nodes beyond, default_of (PROCESSES + 1) thread.proc.num no_process) (row_at-none (THREADS + 1) thread.tid)
+
+pub disconnect_at-no_user : (nodes : List UserNodes) (proc : Proc) (number : ℕ) → length nodes ≤ proc.user.0 → disconnect_at nodes proc number ≡ None
+disconnect_at-no_user nodes proc number beyond = rw (past nodes proc.user.0 no_process_nodes beyond, default_of (PROCESSES + 1) proc.num no_process) (row_at-none MOST number)
+
+pub disconnect_at-no_process : (nodes : List UserNodes) (proc : Proc) (number : ℕ) (of_user : UserNodes) → get_or nodes proc.user.0 no_process_nodes ≡ of_user → length of_user.processes ≤ proc.num → disconnect_at nodes proc number ≡ None
+disconnect_at-no_process nodes proc number of_user is beyond = rw (is, past of_user.processes proc.num no_process beyond) (row_at-none MOST number)
 
 pub none_of : {A : Type 0} (o : Option A) → is_some o ≡ false → o ≡ None
 none_of None none = refl
@@ -218,5 +224,5 @@ started-thread nodes thread there none =
 
 pub started-server : (nodes : List UserNodes) (proc : Proc) (number node : ℕ) → disconnect_at nodes proc number ≡ Some node → process_at nodes proc ≢ no_process
 started-server nodes proc number node there none =
-    let clash : None ≡ Some node = sym (ap (λ p. row_at p.servers number) none ∙ row_at-none COUNT number) ∙ there in
+    let clash : None ≡ Some node = sym (ap (λ p. row_at p.servers number) none ∙ row_at-none MOST number) ∙ there in
     cc

@@ -9,9 +9,9 @@ use Rattle.std.proofs.lemmas.Bool.Decides.{eqb_tells, nat_tests}
 use Rattle.std.proofs.lemmas.List.Folds.{list_any-append}
 use Rattle.std.proofs.lemmas.Option.{unwrap_or-slice_get}
 use Rattle.qx_types.specs.Managers.{manager_number}
+use Rattle.qx_types.specs.declared.names.TheConstants.Manager.{MOST}
 use Rattle.qx_types.specs.declared.limits.TheConstants.Limits.{PROCESSES, THREADS}
 use Rattle.qx_types.specs.declared.names.Proc.{Proc}
-use Rattle.qx_types.specs.declared.names.TheConstants.Manager.{COUNT}
 use Rattle.qx_types.specs.declared.names.Thread.{Thread}
 use Rattle.qx_isolation.specs.declared.rows.Queued.{Queued}
 use Rattle.qx_queues.specs.declared.nodes.ProcessNodes.{ProcessNodes}
@@ -105,7 +105,7 @@ servers-nodes nodes proc number =
     ∙ keys_in-at (λ other at. (other, at)) (λ own. own.servers) (eq_by_cmp server_cmp (proc, number)) proc number
     ((eq_by_cmp_equiv server_total).refl (proc, number))
     (λ other at apart. other_key server_total server_exact (proc, number) (other, at) (λ same. apart (sym (ap (λ s. s.0) same)) (sym (ap (λ s. s.1) same))))
-    (default_of COUNT number None) nodes
+    (default_of MOST number None) nodes
     ∙ ap is_some (sym (unwrap_or-slice_get (process_at nodes proc).servers number None))
 
 -- two sets of threads, or of server connections, told by their members

@@ -3,9 +3,9 @@ use Rattle.std.specs.FinSet as set
 use Rattle.std.specs.Prelude.{◌≡◌, ◌≢◌, ℕ, suc, ◌+◌, [], ◌∷◌, ◌++◌, List, Option, Some, None, get_or, length, option_map, slice_set, replicate}
 use Rattle.qx_types.specs.declared.limits.TheConstants.Limits.{PROCESSES, THREADS}
 use Rattle.qx_types.specs.declared.names.Proc.{Proc}
-use Rattle.qx_types.specs.declared.names.TheConstants.Manager.{COUNT}
 use Rattle.qx_types.specs.declared.names.Thread.{Thread}
 use Rattle.qx_types.specs.Managers.{manager_number}
+use Rattle.qx_types.specs.declared.names.TheConstants.Manager.{MOST}
 use Rattle.qx_isolation.specs.Rows.{row_at}
 use Rattle.qx_queues.specs.declared.nodes.ThreadNodes.{ThreadNodes}
 use Rattle.qx_queues.specs.declared.nodes.ProcessNodes.{ProcessNodes}
@@ -13,7 +13,7 @@ use Rattle.qx_queues.specs.declared.nodes.UserNodes.{UserNodes}
 use Rattle.qx_queues.specs.Queues.{server_cmp, thread_cmp}
 
 abbrev pub no_process : ProcessNodes
-no_process = record { threads = replicate (THREADS + 1) None; servers = replicate COUNT None }
+no_process = record { threads = replicate (THREADS + 1) None; servers = replicate MOST None }
 
 abbrev pub no_process_nodes : UserNodes
 no_process_nodes = record { processes = replicate (PROCESSES + 1) no_process }

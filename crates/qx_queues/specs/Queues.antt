@@ -10,10 +10,9 @@ use Rattle.std.specs.declared.cmp.Ordering.{Ordering}
 use Rattle.qx_types.specs.contracts.names.Proc as proc_row
 use Rattle.qx_types.specs.contracts.names.Thread as thread_row
 use Rattle.qx_types.specs.contracts.outcome.Answer as answer_row
-use Rattle.qx_types.specs.Managers.{manager_number}
+use Rattle.qx_types.specs.Managers.{manager_count, manager_number}
 use Rattle.qx_types.specs.declared.limits.TheConstants.Limits.{PRIORITY, THREADS}
 use Rattle.qx_types.specs.declared.names.Proc.{Proc}
-use Rattle.qx_types.specs.declared.names.TheConstants.Manager.{COUNT}
 use Rattle.qx_types.specs.declared.names.Thread.{Thread}
 use Rattle.qx_types.specs.declared.outcome.Answer.{Answer}
 use Rattle.qx_isolation.specs.contracts.rows.Queued as queued_row
@@ -82,7 +81,7 @@ queues_code =
 
 -- nobody has nodes, the lines are empty, there is no pipe, and nobody was answered
 abbrev pub no_queues : ℕ → Queues
-no_queues users = record { lines = replicate COUNT []; threads = set.empty; servers = set.empty; users = users + 1; room = 0; pipes = maps.empty; answered = [] }
+no_queues users = record { lines = replicate manager_count []; threads = set.empty; servers = set.empty; users = users + 1; room = 0; pipes = maps.empty; answered = [] }
 
 -- the line of the manager of a number
 abbrev pub queues_line : Queues → ℕ → List Queued

@@ -24,13 +24,13 @@ pub struct ThreadNodes {
 #[derive(Clone, Copy, Debug, PartialEq, Eq)]
 pub struct ProcessNodes {
     threads: [Option<ThreadNodes>; Limits::THREADS as usize + 1],
-    servers: [Option<usize>; Manager::COUNT],
+    servers: [Option<usize>; Manager::MOST],
 }
 
 impl ProcessNodes {
     const NONE: ProcessNodes = ProcessNodes {
         threads: [None; Limits::THREADS as usize + 1],
-        servers: [None; Manager::COUNT],
+        servers: [None; Manager::MOST],
     };
 
     fn set(&mut self, thread: u8, own: Option<ThreadNodes>)

@@ -37,7 +37,7 @@ pub struct Queues {
 
 impl Model for Queues {
     ghost use Rattle.std.specs.Prelude.{◌≡◌, length, map};
-    ghost use Rattle.qx_types.specs.declared.names.TheConstants.Manager.{COUNT};
+    ghost use Rattle.qx_types.specs.Managers.{manager_count};
     ghost use Rattle.qx_queues.specs.Queues as words;
     ghost use Rattle.qx_queues.specs.inner.Kept.{KnowsPulses, AreListsOfTable, answered_calls, entries, waiting_lists};
     ghost use Rattle.qx_queues.specs.Nodes.{pulse_line_at, node_of, servers_of, threads_of};
@@ -56,7 +56,7 @@ impl Model for Queues {
       answered = answered_calls c.table c.answered;
     } };
 
-    ghost invariant = { λ c. (length c.lines.items ≡ COUNT) × AreListsOfTable c.table c.lines.items c.answered (node_of c.nodes) × KnowsPulses (map (entries c.table) c.lines.items) (pulse_line_at c.nodes) };
+    ghost invariant = { λ c. (length c.lines.items ≡ manager_count) × AreListsOfTable c.table c.lines.items c.answered (node_of c.nodes) × KnowsPulses (map (entries c.table) c.lines.items) (pulse_line_at c.nodes) };
 }
 
 impl Queues {
@@ -69,7 +69,7 @@ impl Queues {
         let answered = table.add_list()?;
         let mut lines = Vec::new(alloc);
         let nodes = Nodes::new(alloc, users)?;
-        'managers: for _ in 0..Manager::COUNT {
+        'managers: for _ in 0..Manager::count() {
             let line = Line::new(&mut table)?;
             lines.push(line)?;
         }

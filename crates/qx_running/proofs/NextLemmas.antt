@@ -3,11 +3,11 @@ use Rattle.std.proofs.Common.{◌≡◌, ◌∙◌, ◌∷◌, ◌++◌, ◌+◌
 use Rattle.std.specs.List.{list_any}
 use Rattle.std.specs.Option.{option_or}
 use Rattle.std.proofs.lemmas.Bool.{cases_eq, cases_lt}
-use Rattle.std.proofs.lemmas.List.{drop_all}
+use Rattle.std.proofs.lemmas.List.{drop_all, take_all}
+use Rattle.qx_types.proofs.Managers.{count_managers}
 use Rattle.std.proofs.lemmas.List.Folds.{find-append, list_any-append}
-use Rattle.qx_types.specs.Managers.{managers}
+use Rattle.qx_types.specs.Managers.{manager_count, managers}
 use Rattle.qx_types.specs.declared.names.Manager.{Manager}
-use Rattle.qx_types.specs.declared.names.TheConstants.Manager.{COUNT}
 use Rattle.qx_isolation.specs.declared.rows.Queued.{Queued}
 use Rattle.qx_machine.specs.Machine.{World, line_of}
 use Rattle.qx_machine.specs.Reads as reads
@@ -105,12 +105,17 @@ find_turned p turn some = find-append p (drop turn some) (take turn some)
 
 -- ---- the next manager, found in two parts
 
-pub next_behind : (w : World) (most turn now : ℕ) (manager : Manager) → most ≡ greatest_urgency w managers → turn ≡ now → Some manager ≡ find (is_as_urgent w most) (drop turn (take COUNT managers)) → Some manager ≡ next_manager w now
-next_behind w most turn now manager is same here =
-    let p = is_as_urgent w most in
-    ap (λ o. option_or o (find p (take turn managers))) here ∙ sym (find_turned p turn managers) ∙ ap₂ (λ m t. find (is_as_urgent w m) (drop t managers ++ take t managers)) is same
+whole : (to : ℕ) → to ≡ manager_count → take to managers ≡ managers
+whole to is = let all = count_managers in take_all to managers (omega (arith, all, is))
 
-pub next_before : (w : World) (most turn now : ℕ) (result : Option Manager) → most ≡ greatest_urgency w managers → turn ≡ now → None ≡ find (is_as_urgent w most) (drop turn (take COUNT managers)) → result ≡ find (is_as_urgent w most) (drop 0 (take turn managers)) → result ≡ next_manager w now
-next_before w most turn now result is same here later =
+pub next_behind : (w : World) (most turn now to : ℕ) (manager : Manager) → to ≡ manager_count → most ≡ greatest_urgency w managers → turn ≡ now → Some manager ≡ find (is_as_urgent w most) (drop turn (take to managers)) → Some manager ≡ next_manager w now
+next_behind w most turn now to manager count is same here =
     let p = is_as_urgent w most in
-    later ∙ ap (λ o. option_or o (find p (take turn managers))) here ∙ sym (find_turned p turn managers) ∙ ap₂ (λ m t. find (is_as_urgent w m) (drop t managers ++ take t managers)) is same
+    let there = here ∙ ap (λ all. find p (drop turn all)) (whole to count) in
+    ap (λ o. option_or o (find p (take turn managers))) there ∙ sym (find_turned p turn managers) ∙ ap₂ (λ m t. find (is_as_urgent w m) (drop t managers ++ take t managers)) is same
+
+pub next_before : (w : World) (most turn now to : ℕ) (result : Option Manager) → to ≡ manager_count → most ≡ greatest_urgency w managers → turn ≡ now → None ≡ find (is_as_urgent w most) (drop turn (take to managers)) → result ≡ find (is_as_urgent w most) (drop 0 (take turn managers)) → result ≡ next_manager w now
+next_before w most turn now to result count is same here later =
+    let p = is_as_urgent w most in
+    let there = here ∙ ap (λ all. find p (drop turn all)) (whole to count) in
+    later ∙ ap (λ o. option_or o (find p (take turn managers))) there ∙ sym (find_turned p turn managers) ∙ ap₂ (λ m t. find (is_as_urgent w m) (drop t managers ++ take t managers)) is same

@@ -180,7 +180,7 @@ impl Running {
         ensures some { is_some result ≡ is_some (reads.next_manager self.now.world) }
     {
         let most = self.greatest_urgency();
-        match self.first_urgent(self.turn, Manager::COUNT, most) {
+        match self.first_urgent(self.turn, Manager::count(), most) {
             Some(manager) => Some(manager),
             None => self.first_urgent(0, self.turn, most),
         }
@@ -191,7 +191,7 @@ impl Running {
         ensures { result ≡ greatest_urgency self.now.world managers }
     {
         let mut most = 0u16;
-        'managers: for number in 0..Manager::COUNT {
+        'managers: for number in 0..Manager::count() {
             most = most.max(self.urgency(number));
         }
         most

@@ -7,10 +7,9 @@ use Rattle.qx_devices.specs.contracts.Device as device_row
 use Rattle.qx_devices.specs.declared.Device.{Device}
 use Rattle.qx_types.specs.contracts.names.Proc as proc_row
 use Rattle.qx_types.specs.contracts.names.Thread as thread_row
-use Rattle.qx_types.specs.Managers.{manager_number}
+use Rattle.qx_types.specs.Managers.{manager_count, manager_number}
 use Rattle.qx_types.specs.declared.limits.TheConstants.Limits.{THREADS}
 use Rattle.qx_types.specs.declared.names.Proc.{Proc}
-use Rattle.qx_types.specs.declared.names.TheConstants.Manager.{COUNT}
 use Rattle.qx_types.specs.declared.names.Thread.{Thread}
 use Rattle.qx_types.specs.declared.outcome.Answer.{Answer}
 use Rattle.qx_types.specs.declared.outcome.Answer.TheVariants.{Reply}
@@ -66,7 +65,7 @@ shared_code =
 
 -- nobody has nodes, the lines are empty, no user has a pipe, and nobody was answered
 abbrev pub nothing_shared : ℕ → Shared
-nothing_shared users = record { lines = replicate COUNT []; threads = set.empty; servers = set.empty; room = 0; pipes = replicate (users + 1) no_pipes; answered = [] }
+nothing_shared users = record { lines = replicate manager_count []; threads = set.empty; servers = set.empty; room = 0; pipes = replicate (users + 1) no_pipes; answered = [] }
 
 -- the line of the manager of a number
 abbrev pub shared_line : Shared → ℕ → List Queued

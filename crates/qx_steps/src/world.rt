@@ -137,7 +137,7 @@ impl World {
         ensures err { OnErr result (self.new ≡ self.old) }
     {
         let limits = self.config.limits(user);
-        self.channel.spawn(&limits, user, threads, prio)
+        self.channel.spawn(self.alloc, &limits, user, threads, prio)
     }
 
     /// A process ends (C Library Reference: `_exit`; System Architecture: a client that dies): its threads and connections go,
@@ -537,7 +537,7 @@ impl World {
     pub fn next_manager(&self) -> Option<Manager>
         ensures { result ≡ next_manager self.now }
     {
-        'managers: for number in 0..Manager::COUNT {
+        'managers: for number in 0..Manager::count() {
             if let Some(manager) = self.waiting_manager(number) {
                 return Some(manager);
             }

@@ -1,17 +1,17 @@
 -- Managers and their numbers. What is said of every manager is said of each number below their count, so one more manager is told here alone.
-use Rattle.std.proofs.Common.{◌≡◌, ◌≢◌, ℕ, zero, suc, ◌<◌, ◌+◌, List, [], ◌∷◌, length, map, get_or, Option, Some, None, refl, sym, ap, ap₂, subst, ◌∙◌, arith}
+use Rattle.std.proofs.Common.{◌≡◌, ◌≢◌, ℕ, zero, suc, ◌<◌, ◌≤◌, ◌+◌, List, [], ◌∷◌, length, map, get_or, Option, Some, None, refl, sym, ap, ap₂, subst, ◌∙◌, arith}
 use Rattle.std.specs.Prelude.{option_map, slice_get}
 use Rattle.std.proofs.lemmas.List.{ext_get_or, length-map}
 use Rattle.std.proofs.lemmas.Option.{get_or_from_slice_get, same_Some, slice_get-get_or, slice_get-map, slice_get_within}
 use Rattle.qx_devices.specs.Devices.{device_number, devices}
-use Rattle.qx_devices.proofs.Listed.{device_at, device_number_at}
-use Rattle.qx_types.specs.Managers.{manager_number, managers}
+use Rattle.qx_devices.proofs.Listed.{count_devices, device_at, device_number_at, few_devices}
+use Rattle.qx_types.specs.Managers.{manager_count, manager_number, managers}
+use Rattle.qx_types.specs.declared.names.TheConstants.Manager.{MOST}
 use Rattle.qx_types.specs.declared.names.Manager.{Manager}
 use Rattle.qx_types.specs.declared.names.Manager.TheVariants.{Ram, Pipe, Device}
-use Rattle.qx_types.specs.declared.names.TheConstants.Manager.{COUNT}
 
 -- devices come behind the others
-behind : (number : ℕ) → slice_get managers (2 + number) ≡ option_map Device (slice_get devices number)
+pub behind : (number : ℕ) → slice_get managers (2 + number) ≡ option_map Device (slice_get devices number)
 behind number = rw (two_more number) (slice_get-map Device devices number)
   where
     two_more : (number : ℕ) → 2 + number ≡ suc (suc number)
@@ -35,20 +35,26 @@ number_at (suc (suc number)) manager is = device_there (slice_get devices number
         let its = device_number_at number device here in
         ap manager_number (same_Some manager (Device device) (sym is)) ∙ (omega (arith, its))
 
-pub number_below : (manager : Manager) → manager_number manager < COUNT
-number_below manager = slice_get_within managers (manager_number manager) manager (manager_at manager)
+pub count_managers : length managers ≡ manager_count
+count_managers = ap (λ n. suc (suc n)) (length-map devices Device ∙ count_devices) ∙ omega arith
+
+pub few_managers : manager_count ≤ MOST
+few_managers = let few = few_devices in omega (arith, few)
+
+pub number_below : (manager : Manager) → manager_number manager < manager_count
+number_below manager = subst (λ n. manager_number manager < n) count_managers (slice_get_within managers (manager_number manager) manager (manager_at manager))
 
 -- a manager is known by its number
 pub same_manager : (one other : Manager) → manager_number one ≡ manager_number other → one ≡ other
 same_manager one other same = same_Some one other (sym (manager_at one) ∙ ap (slice_get managers) same ∙ manager_at other)
 
 -- under each number below the count is a manager
-pub manager_of : (number : ℕ) → number < COUNT → (manager : Manager) × (slice_get managers number ≡ Some manager)
-manager_of number few = (get_or managers number Ram, slice_get-get_or managers number Ram few)
+pub manager_of : (number : ℕ) → number < manager_count → (manager : Manager) × (slice_get managers number ≡ Some manager)
+manager_of number few = (get_or managers number Ram, slice_get-get_or managers number Ram (subst (λ n. number < n) (sym count_managers) few))
 
 -- a table with a place for each manager is known by what stands there
-pub by_managers : {A : Type 0} (none : A) (places : List A) (at : Manager → A) → length places ≡ COUNT → ((manager : Manager) → get_or places (manager_number manager) none ≡ at manager) → places ≡ map at managers
-by_managers none places at count here = ext_get_or none places (map at managers) (count ∙ sym (length-map managers at)) (λ number within. at_number number within)
+pub by_managers : {A : Type 0} (none : A) (places : List A) (at : Manager → A) → length places ≡ manager_count → ((manager : Manager) → get_or places (manager_number manager) none ≡ at manager) → places ≡ map at managers
+by_managers none places at count here = ext_get_or none places (map at managers) (count ∙ sym (length-map managers at ∙ count_managers)) (λ number within. at_number number within)
   where
     at_number : (number : ℕ) → number < length places → get_or places number none ≡ get_or (map at managers) number none
     at_number number within =

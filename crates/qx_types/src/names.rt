@@ -1,7 +1,7 @@
-ghost use Rattle.std.specs.Prelude.{◌≡◌, ◌<◌, slice_get};
-ghost use Rattle.qx_types.specs.Managers.{manager_number, managers};
+ghost use Rattle.std.specs.Prelude.{◌≡◌, ◌<◌, ◌≤◌, slice_get};
+ghost use Rattle.qx_types.specs.Managers.{manager_count, manager_number, managers};
 ghost use Rattle.qx_types.specs.Step.{user_of};
-ghost use Rattle.qx_types.specs.declared.names.TheConstants.Manager.{COUNT};
+ghost use Rattle.qx_types.specs.declared.names.TheConstants.Manager.{MOST};
 
 use qx_devices::Device;
 
@@ -45,13 +45,22 @@ pub enum Manager {
 }
 
 impl Manager {
+    /// The most managers that there can be.
+    pub const MOST: usize = 2 + Device::MOST;
+
     /// How many managers there are.
-    pub const COUNT: usize = 2 + Device::COUNT;
+    pub fn count() -> usize
+        ensures count { result ≡ manager_count }
+        ensures few { result ≤ MOST }
+    {
+        2 + Device::count()
+    }
 
     /// The manager's number, from 0, under which rows of each manager stand.
     pub fn number(self) -> usize
         ensures number { result ≡ manager_number self }
-        ensures few { result < COUNT }
+        ensures few { result < manager_count }
+        ensures most { result < MOST }
     {
         match self {
             Manager::Ram => 0,

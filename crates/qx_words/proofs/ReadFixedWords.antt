@@ -1,7 +1,8 @@
 -- What is printed of fixed words is a word, and is read back.
-use Rattle.std.proofs.Common.{◌≡◌, ℕ, ◌≤◌, true, List, map, Option, Some, refl, sym, ap, ◌∙◌, arith, zero, suc}
-use Rattle.std.specs.Prelude.{option_map, slice_get}
-use Rattle.std.proofs.lemmas.Option.{same_Some, slice_get-map}
+use Rattle.std.proofs.Common.{◌≡◌, ℕ, ◌≤◌, Bool, true, false, List, [], ◌∷◌, map, cond, Option, Some, refl, sym, ap, ◌∙◌, arith, zero, suc}
+use Rattle.std.specs.Prelude.{codes, option_map}
+use Rattle.std.specs.List.{find}
+use Rattle.std.specs.Str.{bytes_eq}
 use Rattle.std.proofs.lemmas.Bool.Decides.{nat_tests}
 use Rattle.qx_types.specs.declared.fields.NotifyAction.{NotifyAction}
 use Rattle.qx_types.specs.declared.fields.NotifyAction.TheVariants.{Poll, PollArm, TranArm}
@@ -10,9 +11,10 @@ use Rattle.qx_types.specs.declared.fields.Whence.TheVariants.{Set, Current, End}
 use Rattle.qx_types.specs.declared.flags.Conds.{Conds}
 use Rattle.qx_types.specs.declared.user_limits.LimitName.{LimitName}
 use Rattle.qx_types.specs.declared.user_limits.LimitName.TheVariants.{Processes, Connections, Servers, Blocks, Inodes, File, Bytes, Mounts, Events}
+use Rattle.qx_devices.specs.Devices.{device_named, device_word, devices}
+use Rattle.qx_devices.proofs.Words.{named_again, own_word}
 use Rattle.qx_types.specs.declared.names.Manager.{Manager}
-use Rattle.qx_types.specs.Managers.{manager_number, managers}
-use Rattle.qx_types.proofs.Managers.{manager_at}
+use Rattle.qx_types.specs.declared.names.Manager.TheVariants.{Ram, Pipe, Device}
 use Rattle.qx_words.specs.FixedWords.{action_of, action_text, conditions_named, conditions_of, conditions_text, limit_of, limit_text, manager_of, manager_text, whence_of, whence_text}
 use Rattle.qx_words.specs.Kinds.{is_word}
 
@@ -20,26 +22,27 @@ use Rattle.qx_words.specs.Kinds.{is_word}
 abbrev pub IsWordOf : {A : Type 0} → (List ℕ → Option A) → A → List ℕ → Type 0
 IsWordOf read value word = (is_word word ≡ true) × (read word ≡ Some value)
 
--- what is equal in the order of all managers is equal at each
-at_each : {X : Type 0} (f g : Manager → X) → map f managers ≡ map g managers → (manager : Manager) → f manager ≡ g manager
-at_each {X} f g same manager = same_Some (f manager) (g manager) (sym (there f) ∙ ap (λ table. slice_get table (manager_number manager)) same ∙ there g)
-  where
-    there : (f : Manager → X) → slice_get (map f managers) (manager_number manager) ≡ Some (f manager)
-    there f = slice_get-map f managers (manager_number manager) ∙ ap (option_map f) (manager_at manager)
+-- the first of some values that are made of others
+one_more : {A B : Type 0} (make : A → B) (passes : Bool) (value : A) (later : Option B) (rest : Option A) → later ≡ option_map make rest → cond passes (Some (make value)) later ≡ option_map make (cond passes (Some value) rest)
+one_more make true value later rest is = refl
+one_more make false value later rest is = is
 
--- computed of all managers: that of a device whose word is no word, or another's, is refused here
-managers_are_words : map (λ manager. is_word (manager_text manager)) managers ≡ map (λ manager. true) managers
-managers_are_words = refl
+found_of : {A B : Type 0} (make : A → B) (p : B → Bool) (values : List A) → find p (map make values) ≡ option_map make (find (λ value. p (make value)) values)
+found_of make p [] = refl
+found_of make p (value ∷ values) = one_more make (p (make value)) value _ _ (found_of make p values)
 
-managers_again : map (λ manager. manager_of (manager_text manager)) managers ≡ map Some managers
-unfolding manager_of
-managers_again = refl
+-- a word is a device's where it is neither of the two other managers'
+pub manager_at_word : (word : List ℕ) → bytes_eq word (codes "ram") ≡ false → bytes_eq word (codes "pipe") ≡ false → manager_of word ≡ option_map Device (device_named word)
+unfolding manager_of device_named
+manager_at_word word not_ram not_pipe = rw (not_ram, not_pipe) (found_of Device (λ manager. bytes_eq word (manager_text manager)) devices)
 
 pub manager_word : (manager : Manager) → IsWordOf manager_of manager (manager_text manager)
-manager_word manager = (
-  at_each (λ manager. is_word (manager_text manager)) (λ manager. true) managers_are_words manager,
-  at_each (λ manager. manager_of (manager_text manager)) Some managers_again manager,
-)
+unfolding manager_of
+manager_word Ram = (refl, refl)
+manager_word Pipe = (refl, refl)
+manager_word (Device device) =
+    let own = own_word device in
+    (own.0, manager_at_word (device_word device) own.1 own.2 ∙ ap (option_map Device) (named_again device))
 
 pub whence_word : (whence : Whence) → IsWordOf whence_of whence (whence_text whence)
 unfolding whence_of

@@ -4,6 +4,7 @@ use Rattle.std.specs.Fmt.{signed_decimal}
 use Rattle.std.specs.Int.{w64}
 use Rattle.std.specs.List.{list_all}
 use Rattle.hex.specs.Hex.{IsBytes, encode_lower}
+pub use Rattle.qx_devices.specs.Word.{is_word, is_word_byte}
 use Rattle.qx_types.specs.Configuration.{Configuration, is_user_name}
 use Rattle.qx_types.specs.declared.fields.NotifyAction.{NotifyAction}
 use Rattle.qx_types.specs.declared.fields.Whence.{Whence}
@@ -18,13 +19,6 @@ use Rattle.qx_types.specs.declared.names.User.{User}
 use Rattle.qx_words.specs.FixedWords.{action_of, action_text, conditions_of, conditions_text, limit_of, limit_text, manager_of, manager_text, whence_of, whence_text}
 use Rattle.qx_words.specs.WordText.{bytes_text, flags_text, mode_text, process_text, thread_text, user_text}
 use Rattle.qx_words.specs.Words.{bytes_in_word, flags_of, greatest_byte, greatest_moment, greatest_of_four_bytes, greatest_of_two_bytes, hex_byte_of, mode_of, name_in_word, number_of, offset_of, process_in_word, thread_in_word, user_in_word}
-
--- neither a space nor a newline
-abbrev pub is_word_byte : ℕ → Bool
-is_word_byte byte = not (byte == 32) && not (byte == 10)
-
-abbrev pub is_word : List ℕ → Bool
-is_word bytes = not (length bytes == 0) && list_all is_word_byte bytes
 
 -- one of the users with these names
 abbrev pub CanNameUser : List (List ℕ) → User → Type 0

@@ -3,21 +3,20 @@
 ghost use Rattle.std.specs.Prelude.{◌≡◌};
 ghost use Rattle.qx_words.specs.FixedWords.{action_of, conditions_of, limit_of, manager_of, whence_of};
 
-use crate::text::manager_word;
-use qx_types::{Conds, LimitName, Manager, NotifyAction, Whence};
+use qx_types::{Conds, Device, LimitName, Manager, NotifyAction, Whence};
 
 /// A manager, by the word that is printed of it.
-#[tactic(auto, unfolding(crate::specs::FixedWords::manager_of))]
+#[tactic(auto, using(crate::proofs::ReadFixedWords::manager_at_word), unfolding(crate::specs::FixedWords::manager_of))]
 pub fn manager(word: &[u8]) -> Option<Manager>
     ensures manager { result ≡ manager_of word.now }
 {
-    for number in 0..Manager::COUNT {
-        let manager = Manager::of_number(number)?;
-        if word == manager_word(manager) {
-            return Some(manager);
-        }
+    if word == b"ram".as_slice() {
+        Some(Manager::Ram)
+    } else if word == b"pipe".as_slice() {
+        Some(Manager::Pipe)
+    } else {
+        Some(Manager::Device(Device::of_word(word)?))
     }
-    None
 }
 
 /// Where an offset counts from: `set`, `cur` or `end`.

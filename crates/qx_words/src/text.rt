@@ -113,7 +113,7 @@ pub fn manager_word(manager: Manager) -> &'static [u8]
     match manager {
         Manager::Ram => b"ram",
         Manager::Pipe => b"pipe",
-        Manager::Device(device) => device.word().as_bytes(),
+        Manager::Device(device) => device.word(),
     }
 }
 

@@ -118,7 +118,7 @@ fn serve(world: &mut World, moment: u64) -> Result<(), NoMemory> {
     if world.holds(FIRST) {
         let _ = world.perform_held(FIRST, moment)?;
     }
-    for number in 0..Manager::COUNT {
+    for number in 0..Manager::count() {
         if let Some(manager) = Manager::of_number(number) {
             serve_line(world, manager, moment)?;
         }

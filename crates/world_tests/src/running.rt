@@ -126,6 +126,11 @@ fn counts_what_was_cut(rt: HostRuntime) -> Result<(), NoMemory> {
     Ok(())
 }
 
+/// The manager of latches.
+fn latches() -> Option<Manager> {
+    Some(Manager::Device(Device::of_word(b"latch")?))
+}
+
 #[test]
 fn serves_lines_in_turn(rt: HostRuntime) -> Result<(), NoMemory> {
     let alloc = rt.alloc();
@@ -139,7 +144,7 @@ fn serves_lines_in_turn(rt: HostRuntime) -> Result<(), NoMemory> {
     )?;
     assert!(rt; running.next_manager() == Some(Manager::Pipe));
     run(&rt, alloc, &mut running, "receive 1 pipe\nperform 1 6\n")?;
-    assert!(rt; running.next_manager() == Some(Manager::Device(Device::Latch)));
+    assert!(rt; running.next_manager() == latches());
     run(&rt, alloc, &mut running, HIGHER)?;
     assert!(rt; running.next_manager() == Some(Manager::Ram));
     Ok(())

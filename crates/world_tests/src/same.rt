@@ -35,7 +35,7 @@ pub(crate) fn is_same_world(one: &World, other: &World) -> bool {
 
 /// Whether as many items wait in each line.
 fn has_same_lines(one: &World, other: &World) -> bool {
-    for number in 0..Manager::COUNT {
+    for number in 0..Manager::count() {
         if let Some(manager) = Manager::of_number(number) {
             if one.waiting(manager) != other.waiting(manager) {
                 return false;

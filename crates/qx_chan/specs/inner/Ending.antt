@@ -1,9 +1,8 @@
 -- What a process that ends leaves in lines and nodes.
 use Rattle.std.specs.Prelude.{◌≡◌, ◌≢◌, ◌≤◌, ◌<◌, ℕ, zero, suc, List, [], ◌++◌, Option, Some, None, IfSome, IsTrue, true, false, length}
-use Rattle.qx_types.specs.Managers.{manager_number}
+use Rattle.qx_types.specs.Managers.{manager_count, manager_number}
 use Rattle.qx_types.specs.declared.names.Proc.{Proc}
 use Rattle.qx_types.specs.declared.names.Thread.{Thread}
-use Rattle.qx_types.specs.declared.names.TheConstants.Manager.{COUNT}
 use Rattle.qx_isolation.specs.declared.rows.ServerName.{ServerName}
 use Rattle.qx_machine.specs.declared.rows.ThreadRow.{ThreadRow}
 use Rattle.qx_machine.specs.Clients.{dropped_by}
@@ -45,7 +44,7 @@ dropped_below users proc (suc count) = dropped_below users proc count ++ dropped
 -- is gone
 pub record DropsBelow (users : Users) (old new : Shared) (proc : Proc) (count : ℕ) : Type 0 where
   pub queues : new ≡ record old { lines = lines_after proc.user.0 old.lines (dropped_below users proc count) }
-  pub managers : length new.lines ≡ COUNT
+  pub managers : length new.lines ≡ manager_count
   pub own : (tid : ℕ) → tid < count → HasNothing new (record { proc = proc; tid = tid })
   pub others : (other : Thread) → (other.proc ≡ proc → count ≤ other.tid) → IsAsBefore old new other
 

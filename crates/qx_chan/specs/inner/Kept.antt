@@ -1,9 +1,8 @@
 -- How the rows of threads and processes, the lines and the nodes stand together. No public clause of the channel cites this module.
 use Rattle.std.specs.Prelude.{◌≡◌, ℕ, ◌==◌, ◌&&◌, if◌then◌else◌, Bool, true, false, List, [], ◌∷◌, IsSome, Option, Some, None, length, is_some, max}
 use Rattle.std.specs.List.{AllByRecursion}
-use Rattle.qx_types.specs.Managers.{manager_number}
+use Rattle.qx_types.specs.Managers.{manager_count, manager_number}
 use Rattle.qx_types.specs.declared.names.Manager.{Manager}
-use Rattle.qx_types.specs.declared.names.TheConstants.Manager.{COUNT}
 use Rattle.qx_types.specs.declared.names.Proc.{Proc}
 use Rattle.qx_types.specs.declared.names.Thread.{Thread}
 use Rattle.qx_machine.specs.declared.rows.Over.{Over}
@@ -86,7 +85,7 @@ HasServerNodes processes queues proc = HasServerNodesOf (process_of processes pr
 -- answer is on its way; and a process has a disconnect node at a manager exactly while it has a server connection in use there
 pub record StandTogether (processes : Users) (queues : Shared) : Type 0 where
   pub users : length queues.pipes ≡ length processes
-  pub managers : length queues.lines ≡ COUNT
+  pub managers : length queues.lines ≡ manager_count
   pub threads : (thread : Thread) → has_thread queues thread ≡ nodes_for processes thread
   pub lines : (thread : Thread) (number : ℕ) → stands (line_at queues.lines number) thread ≡ stands_at number (thread_row processes thread)
   pub pulses : (thread : Thread) (number call : ℕ) → unblock_call (line_at queues.lines number) thread ≡ Some call → asked_call number call (thread_row processes thread) ≡ true

@@ -6,4 +6,4 @@ use Rattle.qx_chan.proofs.servers.disconnect_all.Given as goal
 
 -- the pulses of those before it stand in their lines
 abbrev pub invariant-loop-number : goal.invariant-loop-number
-invariant-loop-number l = l.queues ≡ with_lost l.proc (flat_map option_to_list (take l.number l.lost)) l.initial.queues
+invariant-loop-number l = l.queues ≡ with_lost l.proc (flat_map option_to_list (take l.number l.all)) l.initial.queues

@@ -7,13 +7,16 @@ use Rattle.qx_machine.specs.declared.rows.Connection.{Connection}
 use Rattle.qx_isolation.specs.Lines.{with_line}
 use Rattle.qx_isolation.specs.Rows.{row_at}
 use Rattle.qx_machine.specs.Servers.{is_attached, servers_from, servers_while}
-use Rattle.qx_process.proofs.AttachLemmas.{freed_elsewhere, freed_fewer, loses, nothing_freed, one_changes, stays_settled}
+use Rattle.qx_process.proofs.AttachLemmas.{freed_elsewhere, freed_fewer, loses, loses-none, nothing_freed, one_changes, stays_settled}
 use Rattle.qx_process.proofs.process.Process.detach.Goals as goal
 
 pub returns-in_err-manager-clause-process : goal.returns-in_err-manager-clause-process
 returns-in_err-manager-clause-process c =
     let none : row_at c.self.inside.connections.items c.args.coid.0 ≡ None = ap (λ process. row_at process.connections c.args.coid.0) c.self.view_is ∙ sym c.conn_of.ensures.row ∙ ap option_copied c.in_err-manager.was in
     rw (← c.self.view_is, nothing_freed c.self.inside.connections.items c.args.coid.0 none, ← c.self.invariant.0) refl
+
+pub returns-in_err-manager-clause-lost : goal.returns-in_err-manager-clause-lost
+returns-in_err-manager-clause-lost c = rw c.from_residual.ensures (loses-none c.args.self.now c.args.self.now refl)
 
 module _ (c : goal.After-settle) where
   abbrev connection : Connection

@@ -5,13 +5,16 @@ use Rattle.qx_types.specs.declared.names.Manager.{Manager}
 use Rattle.qx_isolation.specs.Lines.{with_line}
 use Rattle.qx_isolation.specs.Rows.{row_at}
 use Rattle.qx_machine.specs.Servers.{is_attached, servers_from, servers_while}
-use Rattle.qx_process.proofs.AttachLemmas.{loses, nothing_freed, one_changes, side_fewer, side_freed_elsewhere, stays_settled}
+use Rattle.qx_process.proofs.AttachLemmas.{loses, loses-none, nothing_freed, one_changes, side_fewer, side_freed_elsewhere, stays_settled}
 use Rattle.qx_process.proofs.process.Process.detach_side.Goals as goal
 
 pub returns-in_err-manager-clause-process : goal.returns-in_err-manager-clause-process
 returns-in_err-manager-clause-process c =
     let none : row_at c.self.inside.sides c.args.thread ≡ None = ap (λ process. row_at process.sides c.args.thread) c.self.view_is ∙ sym c.side.ensures.side ∙ c.in_err-manager.was in
     rw (← c.self.view_is, nothing_freed c.self.inside.sides c.args.thread none, ← c.self.invariant.0) refl
+
+pub returns-in_err-manager-clause-lost : goal.returns-in_err-manager-clause-lost
+returns-in_err-manager-clause-lost c = rw c.from_residual.ensures (loses-none c.args.self.now c.args.self.now refl)
 
 module _ (c : goal.After-settle) where
   abbrev manager : Manager

@@ -1,7 +1,7 @@
 use Rattle.std.proofs.Common.{◌≡◌, ◌<◌, ℕ, Some, None, is_some, length, option_map, map, slice_get, slice_set, sym, ◌∙◌, ap, refl, arith}
 use Rattle.std.proofs.lemmas.List.{length-map, length-set}
 use Rattle.std.proofs.lemmas.Option.{slice_get_read}
-use Rattle.qx_types.specs.declared.names.TheConstants.Manager.{COUNT}
+use Rattle.qx_types.specs.Managers.{manager_count}
 use Rattle.qx_lists.specs.Table.{IsFree}
 use Rattle.qx_isolation.specs.Lines.{into, line_at, with_line}
 use Rattle.qx_machine.specs.Machine.{rank}
@@ -18,7 +18,7 @@ pub unreachable-requires : goal.unreachable-requires
 unreachable-requires c = nodes-there c.self.inside.nodes c.args.thread (sym c.at.ensures.own ∙ c.in_default.is) (rw (← c.self.view_is) at c.requires.own)
 
 pub put_in-requires-clause-line : goal.put_in-requires-clause-line
-put_in-requires-clause-line c = c.self.invariant.1.line c.number.result c.index_mut-line.result.now (slice_get_read c.self.inside.lines.items COUNT c.number.result c.index_mut-line.result.now (sym c.self.invariant.0) c.number.ensures.few c.index_mut-line.ensures.value)
+put_in-requires-clause-line c = c.self.invariant.1.line c.number.result c.index_mut-line.result.now (slice_get_read c.self.inside.lines.items manager_count c.number.result c.index_mut-line.result.now (sym c.self.invariant.0) c.number.ensures.few c.index_mut-line.ensures.value)
 
 pub put_in-requires-clause-free : goal.put_in-requires-clause-free
 put_in-requires-clause-free c =
@@ -29,7 +29,7 @@ put_in-requires-clause-free c =
 pub invariant_of-self : goal.invariant_of-self
 invariant_of-self c =
     let placed : c.queued_unblock-pulse.result ≡ unblock_of c.args.thread c.args.call c.args.prio.0 = c.queued_unblock-pulse.ensures.pulse in
-    let is : slice_get c.self.inside.lines.items c.number.result ≡ Some c.index_mut-line.result.now = slice_get_read c.self.inside.lines.items COUNT c.number.result c.index_mut-line.result.now (sym c.self.invariant.0) c.number.ensures.few c.index_mut-line.ensures.value in
+    let is : slice_get c.self.inside.lines.items c.number.result ≡ Some c.index_mut-line.result.now = slice_get_read c.self.inside.lines.items manager_count c.number.result c.index_mut-line.result.now (sym c.self.invariant.0) c.number.ensures.few c.index_mut-line.ensures.value in
     let has : node_of c.self.inside.nodes (Unblock c.args.thread) ≡ Some c.in-Some.own.unblock = ap (option_map (λ own. own.unblock)) (sym c.at.ensures.own ∙ c.in-Some.is) in
     let idle : (number : ℕ) → unblock_call (line_at (map (entries c.self.inside.table) c.self.inside.lines.items) number) c.args.thread ≡ None = rw (← c.self.view_is) at c.requires.idle in
     let free : IsFree c.self.inside.table c.in-Some.own.unblock = IsFree-own pulse_call c.args.thread (Unblock c.args.thread) (reads-call c.args.thread) c.self.inside.table _ _ _ c.self.invariant.1 has (λ number. ap is_some (idle number)) (no_call-unblock c.self.inside.table _ _ c.args.thread _ c.self.invariant.1 has) in
@@ -44,7 +44,7 @@ invariant_of-self c =
 pub returns : goal.returns
 returns c =
     let placed : c.queued_unblock-pulse.result ≡ unblock_of c.args.thread c.args.call c.args.prio.0 = c.queued_unblock-pulse.ensures.pulse in
-    let is : slice_get c.self.inside.lines.items c.number.result ≡ Some c.index_mut-line.result.now = slice_get_read c.self.inside.lines.items COUNT c.number.result c.index_mut-line.result.now (sym c.self.invariant.0) c.number.ensures.few c.index_mut-line.ensures.value in
+    let is : slice_get c.self.inside.lines.items c.number.result ≡ Some c.index_mut-line.result.now = slice_get_read c.self.inside.lines.items manager_count c.number.result c.index_mut-line.result.now (sym c.self.invariant.0) c.number.ensures.few c.index_mut-line.ensures.value in
     let has : node_of c.self.inside.nodes (Unblock c.args.thread) ≡ Some c.in-Some.own.unblock = ap (option_map (λ own. own.unblock)) (sym c.at.ensures.own ∙ c.in-Some.is) in
     let idle : (number : ℕ) → unblock_call (line_at (map (entries c.self.inside.table) c.self.inside.lines.items) number) c.args.thread ≡ None = rw (← c.self.view_is) at c.requires.idle in
     let free : IsFree c.self.inside.table c.in-Some.own.unblock = IsFree-own pulse_call c.args.thread (Unblock c.args.thread) (reads-call c.args.thread) c.self.inside.table _ _ _ c.self.invariant.1 has (λ number. ap is_some (idle number)) (no_call-unblock c.self.inside.table _ _ c.args.thread _ c.self.invariant.1 has) in

@@ -1,8 +1,7 @@
 use Rattle.std.proofs.Common.{◌≡◌, ◌≢◌, ◌<◌, Some, None, length, map, slice_get, slice_set, sym, ◌∙◌, ap, refl, arith}
 use Rattle.std.proofs.lemmas.List.{length-map, length-set}
 use Rattle.std.proofs.lemmas.Option.{slice_get_read}
-use Rattle.qx_types.specs.Managers.{manager_number}
-use Rattle.qx_types.specs.declared.names.TheConstants.Manager.{COUNT}
+use Rattle.qx_types.specs.Managers.{manager_count, manager_number}
 use Rattle.qx_isolation.specs.Lines.{into, with_line}
 use Rattle.qx_machine.specs.Machine.{rank}
 use Rattle.qx_queues.specs.Queues.{disconnect_of}
@@ -19,7 +18,7 @@ pub unreachable-requires : goal.unreachable-requires
 unreachable-requires c = absent_is _ (sym (servers-nodes c.self.inside.nodes c.args.proc (manager_number c.args.server.manager)) ∙ rw (← c.self.view_is) at c.requires.there) (sym c.disconnect.ensures.node ∙ c.in_default.is)
 
 pub put_in-requires-clause-line : goal.put_in-requires-clause-line
-put_in-requires-clause-line c = c.self.invariant.1.line c.number.result c.index_mut-line.result.now (slice_get_read c.self.inside.lines.items COUNT c.number.result c.index_mut-line.result.now (sym c.self.invariant.0) c.number.ensures.few c.index_mut-line.ensures.value)
+put_in-requires-clause-line c = c.self.invariant.1.line c.number.result c.index_mut-line.result.now (slice_get_read c.self.inside.lines.items manager_count c.number.result c.index_mut-line.result.now (sym c.self.invariant.0) c.number.ensures.few c.index_mut-line.ensures.value)
 
 pub put_in-requires-clause-free : goal.put_in-requires-clause-free
 put_in-requires-clause-free c = IsFree-disconnect c.self.inside.table _ _ c.args.proc (manager_number c.args.server.manager) c.in-Some.node c.self.invariant.1 (sym c.disconnect.ensures.node ∙ c.in-Some.is)
@@ -27,7 +26,7 @@ put_in-requires-clause-free c = IsFree-disconnect c.self.inside.table _ _ c.args
 pub invariant_of-self : goal.invariant_of-self
 invariant_of-self c =
     let placed : c.queued_disconnect-pulse.result ≡ disconnect_of c.args.proc c.args.server = c.queued_disconnect-pulse.ensures.pulse in
-    let is : slice_get c.self.inside.lines.items c.number.result ≡ Some c.index_mut-line.result.now = slice_get_read c.self.inside.lines.items COUNT c.number.result c.index_mut-line.result.now (sym c.self.invariant.0) c.number.ensures.few c.index_mut-line.ensures.value in
+    let is : slice_get c.self.inside.lines.items c.number.result ≡ Some c.index_mut-line.result.now = slice_get_read c.self.inside.lines.items manager_count c.number.result c.index_mut-line.result.now (sym c.self.invariant.0) c.number.ensures.few c.index_mut-line.ensures.value in
     let had : disconnect_at c.self.inside.nodes c.args.proc (manager_number c.args.server.manager) ≡ Some c.in-Some.node = sym c.disconnect.ensures.node ∙ c.in-Some.is in
     let free = IsFree-disconnect c.self.inside.table _ _ c.args.proc (manager_number c.args.server.manager) c.in-Some.node c.self.invariant.1 had in
     let gone = rw c.set_disconnect.ensures.set at c.set_disconnect.ensures.there (started-server c.self.inside.nodes c.args.proc _ _ had) in
@@ -43,7 +42,7 @@ invariant_of-self c =
 pub returns : goal.returns
 returns c =
     let placed : c.queued_disconnect-pulse.result ≡ disconnect_of c.args.proc c.args.server = c.queued_disconnect-pulse.ensures.pulse in
-    let is : slice_get c.self.inside.lines.items c.number.result ≡ Some c.index_mut-line.result.now = slice_get_read c.self.inside.lines.items COUNT c.number.result c.index_mut-line.result.now (sym c.self.invariant.0) c.number.ensures.few c.index_mut-line.ensures.value in
+    let is : slice_get c.self.inside.lines.items c.number.result ≡ Some c.index_mut-line.result.now = slice_get_read c.self.inside.lines.items manager_count c.number.result c.index_mut-line.result.now (sym c.self.invariant.0) c.number.ensures.few c.index_mut-line.ensures.value in
     let had : disconnect_at c.self.inside.nodes c.args.proc (manager_number c.args.server.manager) ≡ Some c.in-Some.node = sym c.disconnect.ensures.node ∙ c.in-Some.is in
     let free = IsFree-disconnect c.self.inside.table _ _ c.args.proc (manager_number c.args.server.manager) c.in-Some.node c.self.invariant.1 had in
     let gone = rw c.set_disconnect.ensures.set at c.set_disconnect.ensures.there (started-server c.self.inside.nodes c.args.proc _ _ had) in

@@ -1,7 +1,7 @@
 use Rattle.std.proofs.Common.{◌≡◌, ◌+◌, [], length, length-append, map, replicate, ap, arith, ◌∙◌}
 use Rattle.std.proofs.lemmas.List.{length-replicate}
 use Rattle.std.specs.FinMap as maps
-use Rattle.qx_types.specs.declared.names.TheConstants.Manager.{COUNT}
+use Rattle.qx_types.specs.Managers.{manager_count}
 use Rattle.qx_queues.specs.inner.Kept.{AreListsOfTable, given_at}
 use Rattle.qx_queues.specs.Nodes.{asked_in, no_nodes, no_process_nodes, node_of}
 use Rattle.qx_queues.proofs.BesideLemmas.{empty-line, first_list, no_pipes-line, waiting-none}
@@ -30,12 +30,12 @@ managers-preserved c = (
 
 pub invariant_of-result : goal.invariant_of-result
 invariant_of-result c = (
-  omega (arith, c.managers.invariant.0, c.managers-test.false, c.managers.auto.counter-end),
+  omega (arith, c.managers.invariant.0, c.managers-test.false, c.managers.auto.counter-end, c.count-end.ensures.count),
   rw c.in_ok-nodes.ensures.none c.managers.invariant.2,
   KnowsPulses-none _ _ _ (shown-none c.managers.table c.managers.invariant.4 c.managers.lines.items) (λ thread. rw c.in_ok-nodes.ensures.none (ap asked_in (nodes_at-none c.args.users thread))),
 )
 
 pub returns : goal.returns
 returns c =
-    let all : length c.managers.lines.items ≡ COUNT = omega (arith, c.managers.invariant.0, c.managers-test.false, c.managers.auto.counter-end) in
+    let all : length c.managers.lines.items ≡ manager_count = omega (arith, c.managers.invariant.0, c.managers-test.false, c.managers.auto.counter-end, c.count-end.ensures.count) in
     rw c.in_ok-nodes.ensures.none (record { empty = same_queues (shown-none c.managers.table c.managers.invariant.4 c.managers.lines.items ∙ ap (λ n. replicate n []) all) (threads-none c.args.users) (servers-none c.args.users) (length-replicate (c.args.users + 1) no_process_nodes) c.managers.invariant.1 (waiting-none c.managers.table c.managers.lines.items c.in_ok-answered.answered c.managers.invariant.3) (ap (map (given_at c.managers.table)) (c.managers.invariant.4 c.in_ok-answered.answered)) })

@@ -1,7 +1,7 @@
 use Rattle.std.proofs.Common.{◌≡◌, ◌<◌, ℕ, Some, None, length, drop, map, slice_get, sym, ◌∙◌, ap, refl, arith}
 use Rattle.std.proofs.lemmas.List.{length-map, length-set}
 use Rattle.std.proofs.lemmas.Option.{same_Some, slice_get_read}
-use Rattle.qx_types.specs.declared.names.TheConstants.Manager.{COUNT}
+use Rattle.qx_types.specs.Managers.{manager_count}
 use Rattle.qx_types.specs.declared.names.Thread.{Thread}
 use Rattle.qx_lines.proofs.LineFacts.{nodes_in-distinct}
 use Rattle.qx_isolation.specs.Lines.{line_at}
@@ -20,11 +20,11 @@ abbrev thread_in : ℕ → ℕ → ℕ → Thread
 thread_in user process thread = record { proc = record { user = record { 0 = user }; num = process }; tid = thread }
 
 pub take_out-requires-clause-line : goal.take_out-requires-clause-line
-take_out-requires-clause-line c = c.self.invariant.1.line c.number.result c.index_mut.result.now (slice_get_read c.self.inside.lines.items COUNT c.number.result c.index_mut.result.now (sym c.self.invariant.0) c.number.ensures.few c.index_mut.ensures.value)
+take_out-requires-clause-line c = c.self.invariant.1.line c.number.result c.index_mut.result.now (slice_get_read c.self.inside.lines.items manager_count c.number.result c.index_mut.result.now (sym c.self.invariant.0) c.number.ensures.few c.index_mut.ensures.value)
 
 pub invariant_of-self : goal.invariant_of-self
 invariant_of-self c =
-    let is : slice_get c.self.inside.lines.items c.number.result ≡ Some c.index_mut.result.now = slice_get_read c.self.inside.lines.items COUNT c.number.result c.index_mut.result.now (sym c.self.invariant.0) c.number.ensures.few c.index_mut.ensures.value in
+    let is : slice_get c.self.inside.lines.items c.number.result ≡ Some c.index_mut.result.now = slice_get_read c.self.inside.lines.items manager_count c.number.result c.index_mut.result.now (sym c.self.invariant.0) c.number.ensures.few c.index_mut.ensures.value in
     let within : c.number.result < length (map (entries c.self.inside.table) c.self.inside.lines.items) = omega (arith, length-map c.self.inside.lines.items (entries c.self.inside.table), c.self.invariant.0, c.number.ensures.few) in (
       length-set c.self.inside.lines.items c.number.result c.take_out.new.line ∙ c.self.invariant.0,
       Kept-first c.self.inside.table _ _ c.number.result _ _ _ c.self.invariant.1 is c.take_out.ensures.out,
@@ -33,14 +33,14 @@ invariant_of-self c =
 
 pub returns-in_err-node-clause-rest : goal.returns-in_err-node-clause-rest
 returns-in_err-node-clause-rest c =
-    let is : slice_get c.self.inside.lines.items c.number.result ≡ Some c.index_mut.result.now = slice_get_read c.self.inside.lines.items COUNT c.number.result c.index_mut.result.now (sym c.self.invariant.0) c.number.ensures.few c.index_mut.ensures.value in
+    let is : slice_get c.self.inside.lines.items c.number.result ≡ Some c.index_mut.result.now = slice_get_read c.self.inside.lines.items manager_count c.number.result c.index_mut.result.now (sym c.self.invariant.0) c.number.ensures.few c.index_mut.ensures.value in
     let calls = calls-taken c.self.inside.table _ _ c.number.result _ _ (drop 1) _ c.self.invariant.1 is c.take_out.ensures.out in
     let freed = ap nodes_freed (ap (λ l. slice_get l 0) (line_at-shown c.self.inside.table _ c.number.result _ is) ∙ sym c.in_err-node.ensures.first) in
     rw (← c.self.view_is, ← c.number.ensures.number) (same_queues (shown-first c.self.inside.table _ _ c.number.result _ _ _ c.self.invariant.1 is c.take_out.ensures.out) refl refl refl (omega (arith, c.take_out.ensures.out.elsewhere.room, freed)) calls.waiting calls.given)
 
 pub invariant_of-self-in-Message : goal.invariant_of-self-in-Message
 invariant_of-self-in-Message c =
-    let is : slice_get c.self.inside.lines.items c.number.result ≡ Some c.index_mut.result.now = slice_get_read c.self.inside.lines.items COUNT c.number.result c.index_mut.result.now (sym c.self.invariant.0) c.number.ensures.few c.index_mut.ensures.value in
+    let is : slice_get c.self.inside.lines.items c.number.result ≡ Some c.index_mut.result.now = slice_get_read c.self.inside.lines.items manager_count c.number.result c.index_mut.result.now (sym c.self.invariant.0) c.number.ensures.few c.index_mut.ensures.value in
     let within : c.number.result < length (map (entries c.self.inside.table) c.self.inside.lines.items) = omega (arith, length-map c.self.inside.lines.items (entries c.self.inside.table), c.self.invariant.0, c.number.ensures.few) in
     let first : slice_get (line_at (map (entries c.self.inside.table) c.self.inside.lines.items) c.number.result) 0 ≡ Some c.in_ok-node.first = ap (λ l. slice_get l 0) (line_at-shown c.self.inside.table _ c.number.result _ is) ∙ sym c.in_ok-node.ensures.first in (
       length-set c.self.inside.lines.items c.number.result c.take_out.new.line ∙ c.self.invariant.0,
@@ -50,12 +50,12 @@ invariant_of-self-in-Message c =
 
 pub returns-in-Message-clause-first : goal.returns-in-Message-clause-first
 returns-in-Message-clause-first c =
-    let is : slice_get c.self.inside.lines.items c.number.result ≡ Some c.index_mut.result.now = slice_get_read c.self.inside.lines.items COUNT c.number.result c.index_mut.result.now (sym c.self.invariant.0) c.number.ensures.few c.index_mut.ensures.value in
+    let is : slice_get c.self.inside.lines.items c.number.result ≡ Some c.index_mut.result.now = slice_get_read c.self.inside.lines.items manager_count c.number.result c.index_mut.result.now (sym c.self.invariant.0) c.number.ensures.few c.index_mut.ensures.value in
     rw (← c.self.view_is, ← c.number.ensures.number, line_at-shown c.self.inside.table _ c.number.result _ is) c.in_ok-node.ensures.first
 
 pub returns-in-Message-clause-rest : goal.returns-in-Message-clause-rest
 returns-in-Message-clause-rest c =
-    let is : slice_get c.self.inside.lines.items c.number.result ≡ Some c.index_mut.result.now = slice_get_read c.self.inside.lines.items COUNT c.number.result c.index_mut.result.now (sym c.self.invariant.0) c.number.ensures.few c.index_mut.ensures.value in
+    let is : slice_get c.self.inside.lines.items c.number.result ≡ Some c.index_mut.result.now = slice_get_read c.self.inside.lines.items manager_count c.number.result c.index_mut.result.now (sym c.self.invariant.0) c.number.ensures.few c.index_mut.ensures.value in
     let calls = calls-taken c.self.inside.table _ _ c.number.result _ _ (drop 1) _ c.self.invariant.1 is c.take_out.ensures.out in
     let first : slice_get (line_at (map (entries c.self.inside.table) c.self.inside.lines.items) c.number.result) 0 ≡ Some c.in_ok-node.first = ap (λ l. slice_get l 0) (line_at-shown c.self.inside.table _ c.number.result _ is) ∙ sym c.in_ok-node.ensures.first in
     let freed = ap nodes_freed first ∙ ap nodes_freed_by c.in-Message.is in
@@ -63,7 +63,7 @@ returns-in-Message-clause-rest c =
 
 pub returns-in-Message-clause-gone : goal.returns-in-Message-clause-gone
 returns-in-Message-clause-gone c =
-    let is : slice_get c.self.inside.lines.items c.number.result ≡ Some c.index_mut.result.now = slice_get_read c.self.inside.lines.items COUNT c.number.result c.index_mut.result.now (sym c.self.invariant.0) c.number.ensures.few c.index_mut.ensures.value in
+    let is : slice_get c.self.inside.lines.items c.number.result ≡ Some c.index_mut.result.now = slice_get_read c.self.inside.lines.items manager_count c.number.result c.index_mut.result.now (sym c.self.invariant.0) c.number.ensures.few c.index_mut.ensures.value in
     rw (← c.self.view_is, ← c.number.ensures.number, line_at-shown c.self.inside.table _ c.number.result _ is) (gone-if c.self.inside.table _ _ c.index_mut.result.now c.self.invariant.1 (Some c.in_ok-node.first) (nodes_in-distinct rank_of _ _ (c.self.invariant.1.line _ _ is) c.know.ensures.distinct) c.in_ok-node.ensures.first)
 
 pub set_asked-requires : goal.set_asked-requires
@@ -74,7 +74,7 @@ set_asked-requires c =
 
 pub invariant_of-self-in-Unblock : goal.invariant_of-self-in-Unblock
 invariant_of-self-in-Unblock c =
-    let is : slice_get c.self.inside.lines.items c.number.result ≡ Some c.index_mut.result.now = slice_get_read c.self.inside.lines.items COUNT c.number.result c.index_mut.result.now (sym c.self.invariant.0) c.number.ensures.few c.index_mut.ensures.value in
+    let is : slice_get c.self.inside.lines.items c.number.result ≡ Some c.index_mut.result.now = slice_get_read c.self.inside.lines.items manager_count c.number.result c.index_mut.result.now (sym c.self.invariant.0) c.number.ensures.few c.index_mut.ensures.value in
     let within : c.number.result < length (map (entries c.self.inside.table) c.self.inside.lines.items) = omega (arith, length-map c.self.inside.lines.items (entries c.self.inside.table), c.self.invariant.0, c.number.ensures.few) in
     let first : slice_get (line_at (map (entries c.self.inside.table) c.self.inside.lines.items) c.number.result) 0 ≡ Some c.in_ok-node.first = ap (λ l. slice_get l 0) (line_at-shown c.self.inside.table _ c.number.result _ is) ∙ sym c.in_ok-node.ensures.first in
     let pulse : sender c.in_ok-node.first ≡ thread_in c.in_ok-node.first.user.0 c.in-Unblock.process c.in-Unblock.thread = ap (sender_of c.in_ok-node.first.user.0) c.in-Unblock.is in
@@ -89,7 +89,7 @@ invariant_of-self-in-Unblock c =
 
 pub returns-in-Unblock-clause-rest : goal.returns-in-Unblock-clause-rest
 returns-in-Unblock-clause-rest c =
-    let is : slice_get c.self.inside.lines.items c.number.result ≡ Some c.index_mut.result.now = slice_get_read c.self.inside.lines.items COUNT c.number.result c.index_mut.result.now (sym c.self.invariant.0) c.number.ensures.few c.index_mut.ensures.value in
+    let is : slice_get c.self.inside.lines.items c.number.result ≡ Some c.index_mut.result.now = slice_get_read c.self.inside.lines.items manager_count c.number.result c.index_mut.result.now (sym c.self.invariant.0) c.number.ensures.few c.index_mut.ensures.value in
     let calls = calls-taken c.self.inside.table _ _ c.number.result _ _ (drop 1) _ c.self.invariant.1 is c.take_out.ensures.out in
     let first : slice_get (line_at (map (entries c.self.inside.table) c.self.inside.lines.items) c.number.result) 0 ≡ Some c.in_ok-node.first = ap (λ l. slice_get l 0) (line_at-shown c.self.inside.table _ c.number.result _ is) ∙ sym c.in_ok-node.ensures.first in
     let freed = ap nodes_freed first ∙ ap nodes_freed_by c.in-Unblock.is in
@@ -97,12 +97,12 @@ returns-in-Unblock-clause-rest c =
 
 pub returns-in-Unblock-clause-gone : goal.returns-in-Unblock-clause-gone
 returns-in-Unblock-clause-gone c =
-    let is : slice_get c.self.inside.lines.items c.number.result ≡ Some c.index_mut.result.now = slice_get_read c.self.inside.lines.items COUNT c.number.result c.index_mut.result.now (sym c.self.invariant.0) c.number.ensures.few c.index_mut.ensures.value in
+    let is : slice_get c.self.inside.lines.items c.number.result ≡ Some c.index_mut.result.now = slice_get_read c.self.inside.lines.items manager_count c.number.result c.index_mut.result.now (sym c.self.invariant.0) c.number.ensures.few c.index_mut.ensures.value in
     rw (← c.self.view_is, ← c.number.ensures.number, line_at-shown c.self.inside.table _ c.number.result _ is) (gone-if c.self.inside.table _ _ c.index_mut.result.now c.self.invariant.1 (Some c.in_ok-node.first) (nodes_in-distinct rank_of _ _ (c.self.invariant.1.line _ _ is) c.know.ensures.distinct) c.in_ok-node.ensures.first)
 
 pub invariant_of-self-in-Disconnect : goal.invariant_of-self-in-Disconnect
 invariant_of-self-in-Disconnect c =
-    let is : slice_get c.self.inside.lines.items c.number.result ≡ Some c.index_mut.result.now = slice_get_read c.self.inside.lines.items COUNT c.number.result c.index_mut.result.now (sym c.self.invariant.0) c.number.ensures.few c.index_mut.ensures.value in
+    let is : slice_get c.self.inside.lines.items c.number.result ≡ Some c.index_mut.result.now = slice_get_read c.self.inside.lines.items manager_count c.number.result c.index_mut.result.now (sym c.self.invariant.0) c.number.ensures.few c.index_mut.ensures.value in
     let within : c.number.result < length (map (entries c.self.inside.table) c.self.inside.lines.items) = omega (arith, length-map c.self.inside.lines.items (entries c.self.inside.table), c.self.invariant.0, c.number.ensures.few) in
     let first : slice_get (line_at (map (entries c.self.inside.table) c.self.inside.lines.items) c.number.result) 0 ≡ Some c.in_ok-node.first = ap (λ l. slice_get l 0) (line_at-shown c.self.inside.table _ c.number.result _ is) ∙ sym c.in_ok-node.ensures.first in
     let nobodys = nobodys-disconnect (entry_of_node c.take_out.new.table c.in_ok-node.node) _ _ (ap (λ entry. entry.item) c.in_ok-node.ensures.entry ∙ c.in-Disconnect.is) in
@@ -114,7 +114,7 @@ invariant_of-self-in-Disconnect c =
 
 pub returns-in-Disconnect-clause-rest : goal.returns-in-Disconnect-clause-rest
 returns-in-Disconnect-clause-rest c =
-    let is : slice_get c.self.inside.lines.items c.number.result ≡ Some c.index_mut.result.now = slice_get_read c.self.inside.lines.items COUNT c.number.result c.index_mut.result.now (sym c.self.invariant.0) c.number.ensures.few c.index_mut.ensures.value in
+    let is : slice_get c.self.inside.lines.items c.number.result ≡ Some c.index_mut.result.now = slice_get_read c.self.inside.lines.items manager_count c.number.result c.index_mut.result.now (sym c.self.invariant.0) c.number.ensures.few c.index_mut.ensures.value in
     let calls = calls-taken c.self.inside.table _ _ c.number.result _ _ (drop 1) _ c.self.invariant.1 is c.take_out.ensures.out in
     let first : slice_get (line_at (map (entries c.self.inside.table) c.self.inside.lines.items) c.number.result) 0 ≡ Some c.in_ok-node.first = ap (λ l. slice_get l 0) (line_at-shown c.self.inside.table _ c.number.result _ is) ∙ sym c.in_ok-node.ensures.first in
     let kept = Kept-first c.self.inside.table _ _ c.number.result _ _ _ c.self.invariant.1 is c.take_out.ensures.out in
@@ -126,10 +126,10 @@ returns-in-Disconnect-clause-rest c =
 
 pub returns-in-Unblock-clause-first : goal.returns-in-Unblock-clause-first
 returns-in-Unblock-clause-first c =
-    let is : slice_get c.self.inside.lines.items c.number.result ≡ Some c.index_mut.result.now = slice_get_read c.self.inside.lines.items COUNT c.number.result c.index_mut.result.now (sym c.self.invariant.0) c.number.ensures.few c.index_mut.ensures.value in
+    let is : slice_get c.self.inside.lines.items c.number.result ≡ Some c.index_mut.result.now = slice_get_read c.self.inside.lines.items manager_count c.number.result c.index_mut.result.now (sym c.self.invariant.0) c.number.ensures.few c.index_mut.ensures.value in
     rw (← c.self.view_is, ← c.number.ensures.number, line_at-shown c.self.inside.table _ c.number.result _ is) c.in_ok-node.ensures.first
 
 pub returns-in-Disconnect-clause-first : goal.returns-in-Disconnect-clause-first
 returns-in-Disconnect-clause-first c =
-    let is : slice_get c.self.inside.lines.items c.number.result ≡ Some c.index_mut.result.now = slice_get_read c.self.inside.lines.items COUNT c.number.result c.index_mut.result.now (sym c.self.invariant.0) c.number.ensures.few c.index_mut.ensures.value in
+    let is : slice_get c.self.inside.lines.items c.number.result ≡ Some c.index_mut.result.now = slice_get_read c.self.inside.lines.items manager_count c.number.result c.index_mut.result.now (sym c.self.invariant.0) c.number.ensures.few c.index_mut.ensures.value in
     rw (← c.self.view_is, ← c.number.ensures.number, line_at-shown c.self.inside.table _ c.number.result _ is) c.in_ok-node.ensures.first

@@ -1,8 +1,7 @@
 use Rattle.std.proofs.Common.{◌≡◌, ◌<◌, Some, None, true, false, is_some, length, option_map, map, slice_get, slice_set, sym, ◌∙◌, ap, refl, arith}
 use Rattle.std.proofs.lemmas.List.{length-map, length-set}
 use Rattle.std.proofs.lemmas.Option.{slice_get_read}
-use Rattle.qx_types.specs.Managers.{manager_number}
-use Rattle.qx_types.specs.declared.names.TheConstants.Manager.{COUNT}
+use Rattle.qx_types.specs.Managers.{manager_count, manager_number}
 use Rattle.qx_lists.proofs.ListLemmas.{absent_without, contains_without}
 use Rattle.qx_lists.specs.Table.{without}
 use Rattle.qx_lines.specs.Line.{nodes_in}
@@ -55,11 +54,11 @@ returns-then-asked_call-call-clause-gone c = λ is.
     absurd (other-field c.self.inside.table _ _ c.args.thread c.in-Some.own.unblock c.self.invariant.1 has c.args.call c.asked_call.result (manager_number c.args.manager) c.asked_call.ensures.call c.if-asked_call-call.true (rw (← c.self.view_is) at is))
 
 pub remove-requires-clause-line : goal.remove-requires-clause-line
-remove-requires-clause-line c = c.self.invariant.1.line c.number-3.result c.index_mut-line.result.now (slice_get_read c.self.inside.lines.items COUNT c.number-3.result c.index_mut-line.result.now (sym c.self.invariant.0) c.number-3.ensures.few c.index_mut-line.ensures.value)
+remove-requires-clause-line c = c.self.invariant.1.line c.number-3.result c.index_mut-line.result.now (slice_get_read c.self.inside.lines.items manager_count c.number-3.result c.index_mut-line.result.now (sym c.self.invariant.0) c.number-3.ensures.few c.index_mut-line.ensures.value)
 
 pub remove-requires-clause-in_line : goal.remove-requires-clause-in_line
 remove-requires-clause-in_line c =
-    let is : slice_get c.self.inside.lines.items c.number-3.result ≡ Some c.index_mut-line.result.now = slice_get_read c.self.inside.lines.items COUNT c.number-3.result c.index_mut-line.result.now (sym c.self.invariant.0) c.number-3.ensures.few c.index_mut-line.ensures.value in
+    let is : slice_get c.self.inside.lines.items c.number-3.result ≡ Some c.index_mut-line.result.now = slice_get_read c.self.inside.lines.items manager_count c.number-3.result c.index_mut-line.result.now (sym c.self.invariant.0) c.number-3.ensures.few c.index_mut-line.ensures.value in
     let has : node_of c.self.inside.nodes (Unblock c.args.thread) ≡ Some c.in-Some.own.unblock = ap (option_map (λ own. own.unblock)) (sym c.at.ensures.own ∙ c.in-Some.is) in
     let asked : pulse_line_at c.self.inside.nodes c.args.thread ≡ Some c.number-3.result = ap asked_in (sym c.at.ensures.own ∙ c.in-Some.is) ∙ ap (option_map manager_number) c.in-Some-asked.is ∙ ap Some (sym c.number.ensures.number ∙ c.if-number.false ∙ c.number-2.ensures.number ∙ sym c.number-3.ensures.number) in
     let told : is_some (unblock_call (line_at (map (entries c.self.inside.table) c.self.inside.lines.items) c.number-3.result) c.args.thread) ≡ true = c.self.invariant.2 c.args.thread c.number-3.result ∙ ap (is_line_at c.number-3.result) asked ∙ is_at-self c.number-3.result in
@@ -67,7 +66,7 @@ remove-requires-clause-in_line c =
 
 pub invariant_of-self : goal.invariant_of-self
 invariant_of-self c =
-    let is : slice_get c.self.inside.lines.items c.number-3.result ≡ Some c.index_mut-line.result.now = slice_get_read c.self.inside.lines.items COUNT c.number-3.result c.index_mut-line.result.now (sym c.self.invariant.0) c.number-3.ensures.few c.index_mut-line.ensures.value in
+    let is : slice_get c.self.inside.lines.items c.number-3.result ≡ Some c.index_mut-line.result.now = slice_get_read c.self.inside.lines.items manager_count c.number-3.result c.index_mut-line.result.now (sym c.self.invariant.0) c.number-3.ensures.few c.index_mut-line.ensures.value in
     let has : node_of c.self.inside.nodes (Unblock c.args.thread) ≡ Some c.in-Some.own.unblock = ap (option_map (λ own. own.unblock)) (sym c.at.ensures.own ∙ c.in-Some.is) in
     let asked : pulse_line_at c.self.inside.nodes c.args.thread ≡ Some c.number-3.result = ap asked_in (sym c.at.ensures.own ∙ c.in-Some.is) ∙ ap (option_map manager_number) c.in-Some-asked.is ∙ ap Some (sym c.number.ensures.number ∙ c.if-number.false ∙ c.number-2.ensures.number ∙ sym c.number-3.ensures.number) in
     let names : pulse_call (entry_of_node c.self.inside.table c.in-Some.own.unblock).item ≡ Some c.args.call = c.asked_call.ensures.call ∙ ap Some c.if-asked_call-call.false in
@@ -82,7 +81,7 @@ invariant_of-self c =
 
 pub returns-clause-replied : goal.returns-clause-replied
 returns-clause-replied c =
-    let is : slice_get c.self.inside.lines.items c.number-3.result ≡ Some c.index_mut-line.result.now = slice_get_read c.self.inside.lines.items COUNT c.number-3.result c.index_mut-line.result.now (sym c.self.invariant.0) c.number-3.ensures.few c.index_mut-line.ensures.value in
+    let is : slice_get c.self.inside.lines.items c.number-3.result ≡ Some c.index_mut-line.result.now = slice_get_read c.self.inside.lines.items manager_count c.number-3.result c.index_mut-line.result.now (sym c.self.invariant.0) c.number-3.ensures.few c.index_mut-line.ensures.value in
     let has : node_of c.self.inside.nodes (Unblock c.args.thread) ≡ Some c.in-Some.own.unblock = ap (option_map (λ own. own.unblock)) (sym c.at.ensures.own ∙ c.in-Some.is) in
     let names : pulse_call (entry_of_node c.self.inside.table c.in-Some.own.unblock).item ≡ Some c.args.call = c.asked_call.ensures.call ∙ ap Some c.if-asked_call-call.false in
     let left : map (entry_of_node c.self.inside.table) (without c.in-Some.own.unblock (nodes_in c.self.inside.table c.index_mut-line.result.now)) ≡ line_without c.args.thread.proc.user.0 (item.Unblock c.args.thread.proc.num c.args.thread.tid c.args.call) (entries c.self.inside.table c.index_mut-line.result.now) = pulse-leaves c.self.inside.table _ _ c.args.thread c.in-Some.own.unblock c.self.invariant.1 c.index_mut-line.result.now has c.args.call names (nodes_in-distinct rank_of _ _ (c.self.invariant.1.line _ _ is) c.know.ensures.distinct) in
@@ -92,7 +91,7 @@ returns-clause-replied c =
 
 pub returns-clause-gone : goal.returns-clause-gone
 returns-clause-gone c = λ stood.
-    let is : slice_get c.self.inside.lines.items c.number-3.result ≡ Some c.index_mut-line.result.now = slice_get_read c.self.inside.lines.items COUNT c.number-3.result c.index_mut-line.result.now (sym c.self.invariant.0) c.number-3.ensures.few c.index_mut-line.ensures.value in
+    let is : slice_get c.self.inside.lines.items c.number-3.result ≡ Some c.index_mut-line.result.now = slice_get_read c.self.inside.lines.items manager_count c.number-3.result c.index_mut-line.result.now (sym c.self.invariant.0) c.number-3.ensures.few c.index_mut-line.ensures.value in
     let has : node_of c.self.inside.nodes (Unblock c.args.thread) ≡ Some c.in-Some.own.unblock = ap (option_map (λ own. own.unblock)) (sym c.at.ensures.own ∙ c.in-Some.is) in
     let names : pulse_call (entry_of_node c.self.inside.table c.in-Some.own.unblock).item ≡ Some c.args.call = c.asked_call.ensures.call ∙ ap Some c.if-asked_call-call.false in
     let left : map (entry_of_node c.self.inside.table) (without c.in-Some.own.unblock (nodes_in c.self.inside.table c.index_mut-line.result.now)) ≡ line_without c.args.thread.proc.user.0 (item.Unblock c.args.thread.proc.num c.args.thread.tid c.args.call) (entries c.self.inside.table c.index_mut-line.result.now) = pulse-leaves c.self.inside.table _ _ c.args.thread c.in-Some.own.unblock c.self.invariant.1 c.index_mut-line.result.now has c.args.call names (nodes_in-distinct rank_of _ _ (c.self.invariant.1.line _ _ is) c.know.ensures.distinct) in

@@ -1,7 +1,7 @@
 use Rattle.std.proofs.Common.{◌≡◌, ◌<◌, Some, length, option_map, map, slice_get, slice_set, sym, ◌∙◌, ap, refl, arith}
 use Rattle.std.proofs.lemmas.List.{length-map, length-set}
 use Rattle.std.proofs.lemmas.Option.{slice_get_read}
-use Rattle.qx_types.specs.declared.names.TheConstants.Manager.{COUNT}
+use Rattle.qx_types.specs.Managers.{manager_count}
 use Rattle.qx_lists.specs.Table.{IsFree}
 use Rattle.qx_isolation.specs.Lines.{into, with_line}
 use Rattle.qx_machine.specs.Machine.{rank}
@@ -19,7 +19,7 @@ pub there-requires : goal.there-requires
 there-requires c = record { there = nodes-known c.self.inside.nodes c.args.thread (rw (← c.self.view_is) at c.requires.own) }
 
 pub put_again-requires-clause-line : goal.put_again-requires-clause-line
-put_again-requires-clause-line c = c.self.invariant.1.line c.number.result c.index_mut-line.result.now (slice_get_read c.self.inside.lines.items COUNT c.number.result c.index_mut-line.result.now (sym c.self.invariant.0) c.number.ensures.few c.index_mut-line.ensures.value)
+put_again-requires-clause-line c = c.self.invariant.1.line c.number.result c.index_mut-line.result.now (slice_get_read c.self.inside.lines.items manager_count c.number.result c.index_mut-line.result.now (sym c.self.invariant.0) c.number.ensures.few c.index_mut-line.ensures.value)
 
 pub put_again-requires-clause-free : goal.put_again-requires-clause-free
 put_again-requires-clause-free c =
@@ -28,7 +28,7 @@ put_again-requires-clause-free c =
 
 pub invariant_of-self : goal.invariant_of-self
 invariant_of-self c =
-    let is : slice_get c.self.inside.lines.items c.number.result ≡ Some c.index_mut-line.result.now = slice_get_read c.self.inside.lines.items COUNT c.number.result c.index_mut-line.result.now (sym c.self.invariant.0) c.number.ensures.few c.index_mut-line.ensures.value in
+    let is : slice_get c.self.inside.lines.items c.number.result ≡ Some c.index_mut-line.result.now = slice_get_read c.self.inside.lines.items manager_count c.number.result c.index_mut-line.result.now (sym c.self.invariant.0) c.number.ensures.few c.index_mut-line.ensures.value in
     let has : node_of c.self.inside.nodes (Message c.args.thread) ≡ Some c.there.result.now.message = ap (option_map (λ own. own.message)) c.there.ensures.own in
     let free : IsFree c.self.inside.table c.there.result.now.message = IsFree-own as_message c.args.thread (Message c.args.thread) (reads-message c.args.thread) c.self.inside.table _ _ _ c.self.invariant.1 has (rw (← c.self.view_is) at c.requires.idle) (no_call-message c.self.inside.table _ _ c.args.thread _ c.self.invariant.1 has (rw (← c.self.view_is) at c.requires.no_call.waiting) (rw (← c.self.view_is) at c.requires.no_call.answered)) in
     let put : PutIn c.self.inside.table c.put_again.new.table c.index_mut-line.result.now c.put_again.new.line c.there.result.now.message (idle (message_of c.args.thread c.args.prio.0)) = rw (ranked-message c.self.inside.table _ _ c.args.thread _ c.self.invariant.1 has free c.args.prio) at c.put_again.ensures.put in
@@ -41,7 +41,7 @@ invariant_of-self c =
 
 pub returns : goal.returns
 returns c =
-    let is : slice_get c.self.inside.lines.items c.number.result ≡ Some c.index_mut-line.result.now = slice_get_read c.self.inside.lines.items COUNT c.number.result c.index_mut-line.result.now (sym c.self.invariant.0) c.number.ensures.few c.index_mut-line.ensures.value in
+    let is : slice_get c.self.inside.lines.items c.number.result ≡ Some c.index_mut-line.result.now = slice_get_read c.self.inside.lines.items manager_count c.number.result c.index_mut-line.result.now (sym c.self.invariant.0) c.number.ensures.few c.index_mut-line.ensures.value in
     let has : node_of c.self.inside.nodes (Message c.args.thread) ≡ Some c.there.result.now.message = ap (option_map (λ own. own.message)) c.there.ensures.own in
     let free : IsFree c.self.inside.table c.there.result.now.message = IsFree-own as_message c.args.thread (Message c.args.thread) (reads-message c.args.thread) c.self.inside.table _ _ _ c.self.invariant.1 has (rw (← c.self.view_is) at c.requires.idle) (no_call-message c.self.inside.table _ _ c.args.thread _ c.self.invariant.1 has (rw (← c.self.view_is) at c.requires.no_call.waiting) (rw (← c.self.view_is) at c.requires.no_call.answered)) in
     let put : PutIn c.self.inside.table c.put_again.new.table c.index_mut-line.result.now c.put_again.new.line c.there.result.now.message (idle (message_of c.args.thread c.args.prio.0)) = rw (ranked-message c.self.inside.table _ _ c.args.thread _ c.self.invariant.1 has free c.args.prio) at c.put_again.ensures.put in

@@ -19,11 +19,11 @@ use Rattle.std.specs.Int.{w16, from_le_bytes, to_le_bytes}
 use Rattle.qx_errno.specs.declared.Errno.{Errno}
 use Rattle.qx_errno.specs.declared.Errno.TheVariants.{EBUSY, EINVAL}
 use Rattle.qx_device.specs.Verdict.{Verdict, Gives, Fails}
-use Rattle.pump.specs.declared.Command.{Command}
-use Rattle.pump.specs.declared.Command.TheVariants as command
-use Rattle.pump.specs.declared.Doing.{Doing}
-use Rattle.pump.specs.declared.Doing.TheVariants.{Stopped, Running, Alarm}
-use Rattle.pump.specs.declared.Pump.{Pump}
+use Rattle.qx_devices.specs.declared.pump.Command.{Command}
+use Rattle.qx_devices.specs.declared.pump.Command.TheVariants as command
+use Rattle.qx_devices.specs.declared.pump.Doing.{Doing}
+use Rattle.qx_devices.specs.declared.pump.Doing.TheVariants.{Stopped, Running, Alarm}
+use Rattle.qx_devices.specs.declared.pump.Pump.{Pump}
 
 -- ---- its bytes
 
