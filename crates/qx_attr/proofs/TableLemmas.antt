@@ -6,7 +6,7 @@ use Rattle.std.specs.Prelude.{Ok, Err, nat_le, if◌then◌else◌}
 use Rattle.qx_isolation.proofs.Places.{row_at-set_other}
 use Rattle.qx_machine.specs.Inodes.{number_within}
 use Rattle.qx_isolation.specs.Rows.{row_at, lowest_from, put_row, taken_places}
-use Rattle.qx_errno.specs.declared.Errno.{Errno}
+use Rattle.qx_base.specs.declared.errno.Errno.{Errno}
 
 pub same_map : {A B : Type 0} (f g : Option A → Option B) (keys : List (Option A)) → ((m : ℕ) → g (row_at keys m) ≡ f (row_at keys m)) → map g keys ≡ map f keys
 same_map f g [] same = refl

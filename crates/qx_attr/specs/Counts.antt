@@ -1,6 +1,6 @@
 -- The three counts that stand beside an attribute, so that nobody has to count open control blocks.
 use Rattle.std.specs.Prelude.{ℕ, Result, Ok, Err}
-use Rattle.qx_errno.specs.declared.Errno.{Errno}
+use Rattle.qx_base.specs.declared.errno.Errno.{Errno}
 use Rattle.qx_machine.specs.Inodes.{Inodes, Numbered}
 
 -- inodes and open control blocks, and how many more of each can be made with no memory

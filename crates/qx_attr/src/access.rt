@@ -1,5 +1,5 @@
 ghost use Rattle.std.specs.Prelude.{◌≡◌, Ok, Err, if◌then◌else◌};
-ghost use Rattle.qx_errno.specs.declared.Errno.TheVariants.{EACCES};
+ghost use Rattle.qx_base.specs.declared.errno.Errno.TheVariants.{EACCES};
 ghost use Rattle.qx_machine.specs.Inodes as inodes;
 
 use qx_machine::{Access, Attribute};

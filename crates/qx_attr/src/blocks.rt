@@ -7,7 +7,7 @@ ghost use Rattle.qx_isolation.specs.Rows.{lowest_from, put_row, row_at, with_row
 use crate::growth;
 use qx_hint::{assert_unchecked, unwrap_unchecked};
 use qx_machine::{Client, Ocb};
-use qx_process::places;
+use qx_rows::places;
 use slab::Slab;
 use std::alloc::{AllocError, Global};
 use std::marker::Model;

@@ -16,7 +16,7 @@ use crate::status::{Status, stat_bytes};
 use bitflags::Flags;
 use qx_hint::as_mut_unchecked;
 use qx_machine::{Attribute, Client, Ocb, Sides};
-use qx_process::places;
+use qx_rows::places;
 use qx_types::{Errno, Limits, OFlags};
 use std::alloc::{AllocError, Global};
 use std::marker::Model;

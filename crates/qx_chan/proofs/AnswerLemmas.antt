@@ -4,7 +4,7 @@ use Rattle.std.specs.Option.{option_to_list}
 use Rattle.std.specs.Prelude.{option_map}
 use Rattle.std.proofs.lemmas.Bool.{eqb-true, false≢true}
 use Rattle.qx_types.specs.Managers.{manager_number}
-use Rattle.qx_errno.specs.declared.Errno.{Errno}
+use Rattle.qx_base.specs.declared.errno.Errno.{Errno}
 use Rattle.qx_types.specs.declared.names.Manager.{Manager}
 use Rattle.qx_types.specs.declared.names.Thread.{Thread}
 use Rattle.qx_types.specs.declared.outcome.Answer.{Answer}
@@ -24,7 +24,7 @@ use Rattle.qx_queues.specs.Queues.{stands, unblock_call}
 use Rattle.qx_shared.specs.Shared.{Shared, with_shared_line}
 use Rattle.qx_queues.proofs.EntryLemmas.{with_line-same}
 use Rattle.qx_queues.proofs.LineLemmas.{call-replied_other, call-withdrawn, replied-none, stands-replied, stands-withdrawn_other}
-use Rattle.qx_procs.specs.Calls.{LosesAt}
+use Rattle.qx_clients.specs.Calls.{LosesAt}
 use Rattle.qx_chan.specs.Calls.{queued_call}
 use Rattle.qx_chan.specs.inner.Calls.{taken_call}
 use Rattle.qx_chan.specs.Channel.{failed}

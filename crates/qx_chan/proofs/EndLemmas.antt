@@ -1,6 +1,6 @@
 -- A process ends: what its threads have in lines goes, and rows, lines and nodes stand together then.
 use Rattle.std.proofs.Common.{◌≡◌, ◌≢◌, ◌⊎◌, inl, inr, ℕ, zero, suc, ◌+◌, ◌<◌, ◌≤◌, ◌&&◌, ◌||◌, ◌==◌, ◌++◌, ◌∷◌, [], List, Bool, true, false, not, Option, Some, None, IsTrue, length, map, is_some, get_or, slice_set, refl, sym, ◌∙◌, ap, subst, arith}
-use Rattle.qx_procs.specs.Calls.{EndsAt, has_ended_in}
+use Rattle.qx_clients.specs.Calls.{EndsAt, has_ended_in}
 use Rattle.std.proofs.lemmas.Option.{same_Some}
 use Rattle.qx_types.proofs.Managers.{number_below}
 use Rattle.qx_types.specs.declared.outcome.Answer.{Answer}

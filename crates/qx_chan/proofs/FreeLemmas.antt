@@ -23,7 +23,7 @@ use Rattle.qx_isolation.proofs.Places.{set-row_at}
 use Rattle.qx_queues.specs.Queues.{stands, unblock_call}
 use Rattle.qx_queues.proofs.NodesLemmas.{same_proc}
 use Rattle.qx_shared.specs.Shared.{Shared, calls_at, has_disconnect_node, has_thread, pipes_of, users_waiting, waiting_calls, without_shared_process, without_threads_below}
-use Rattle.qx_process.proofs.RowLemmas.{with_row-none}
+use Rattle.qx_rows.proofs.RowLemmas.{with_row-none}
 use Rattle.qx_chan.specs.inner.Kept.{IsWaiting, StandTogether, asked_call, has_nodes, may_wait, stands_at}
 use Rattle.qx_chan.specs.Nodes.{served_at}
 use Rattle.qx_chan.specs.Users.{Users, process_of, thread_row}

@@ -17,11 +17,11 @@ use Rattle.qx_isolation.specs.Rows.{row_at, with_row}
 use Rattle.qx_machine.specs.Servers.{Servers, in_use, is_in_use, is_left, without_left}
 use Rattle.qx_queues.specs.Queues.{UsersAnswer}
 use Rattle.qx_shared.specs.Shared.{Shared, waiting_in}
-use Rattle.qx_procs.specs.Calls.{has_ended_in}
+use Rattle.qx_clients.specs.Calls.{has_ended_in}
 use Rattle.qx_chan.specs.Users.{Users, process_of, thread_row, with_process_of}
 use Rattle.qx_chan.specs.inner.Kept.{Answering, IsAwaited, StandTogether, asked_call, has_nodes, stands_at, waits_for}
 use Rattle.qx_chan.specs.Nodes.{served_at}
-use Rattle.qx_process.proofs.RowLemmas.{row_at-get_or}
+use Rattle.qx_rows.proofs.RowLemmas.{row_at-get_or}
 use Rattle.qx_queues.proofs.NodesLemmas.{same_proc}
 use Rattle.qx_chan.proofs.ProcessLemmas.{process_of-other, process_of-same}
 use Rattle.qx_chan.proofs.RowReads.{length-with_row, row_at-with_other}

@@ -24,7 +24,7 @@ use Rattle.qx_process.proofs.AttachLemmas.{same_lost}
 use Rattle.qx_process.specs.Reads.{is_at}
 use Rattle.qx_queues.specs.Queues.{disconnect_of, stands, unblock_call}
 use Rattle.qx_shared.specs.Shared.{Shared, has_disconnect_node, has_thread, waiting_in, with_shared_disconnect}
-use Rattle.qx_procs.specs.Calls.{LosesAt}
+use Rattle.qx_clients.specs.Calls.{LosesAt}
 use Rattle.qx_chan.specs.Users.{Users, process_of, thread_row, with_process_of}
 use Rattle.qx_chan.specs.inner.Kept.{HasServerNodes, HasServerNodesOf, IsWaiting, StandTogether, asked_call, nodes_for, stands_at, with_lost}
 use Rattle.qx_chan.specs.Nodes.{served_at}

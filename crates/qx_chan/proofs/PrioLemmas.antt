@@ -11,8 +11,8 @@ use Rattle.qx_machine.specs.Clients.{answer_in, may_give}
 use Rattle.qx_machine.specs.Events.{Events}
 use Rattle.qx_machine.specs.Processes.{Process, ranked_thread, ready_thread, with_thread}
 use Rattle.qx_isolation.specs.Rows.{row_at, with_row}
-use Rattle.qx_process.proofs.RowLemmas.{set-row}
-use Rattle.qx_procs.specs.Calls.{after_or, with_prio}
+use Rattle.qx_rows.proofs.RowLemmas.{set-row}
+use Rattle.qx_clients.specs.Calls.{after_or, with_prio}
 use Rattle.qx_machine.specs.Waiting.{Pipes}
 use Rattle.qx_shared.specs.Shared.{Shared}
 use Rattle.qx_isolation.specs.declared.rows.Queued.{Queued as Item}

@@ -9,7 +9,7 @@ use Rattle.qx_machine.specs.Parts.{thread_of}
 use Rattle.qx_machine.specs.Processes.{Process, with_thread}
 use Rattle.qx_isolation.specs.Rows.{row_at, with_row}
 use Rattle.qx_process.specs.Lends.{put_thread}
-use Rattle.qx_process.proofs.RowLemmas.{set-row, with_row-none}
+use Rattle.qx_rows.proofs.RowLemmas.{set-row, with_row-none}
 use Rattle.qx_chan.specs.Users.{Users, process_of_user, process_of, thread_row, with_process_of, with_thread_row}
 use Rattle.qx_chan.proofs.RowReads.{option_cases, row_at-with_other, row_at-with_same}
 

@@ -7,7 +7,7 @@ use Rattle.std.proofs.lemmas.List.{get_or-set_same, get_or-set_other, length-set
 use Rattle.std.proofs.Math.ListN.{get_or-append}
 use Rattle.std.proofs.Math.Seq.{get_or-append_seam, get_or-append_right}
 use Rattle.qx_isolation.specs.Rows.{row_at, lowest_from, put_row, taken_places, with_row}
-use Rattle.qx_process.proofs.RowLemmas.{row_at-get_or, set-row}
+use Rattle.qx_rows.proofs.RowLemmas.{row_at-get_or, set-row}
 
 pub option_cases : {A : Type 0} (o : Option A) → (o ≡ None) ⊎ ((x : A) × (o ≡ Some x))
 option_cases None = inl refl

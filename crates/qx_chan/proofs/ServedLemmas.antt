@@ -5,7 +5,7 @@ use Rattle.std.specs.List.{AllByRecursion}
 use Rattle.std.specs.Option.{option_to_list}
 use Rattle.std.specs.Prelude.{Ok, Err, option_map, slice_set}
 use Rattle.qx_types.specs.Managers.{manager_number}
-use Rattle.qx_errno.specs.declared.Errno.{Errno}
+use Rattle.qx_base.specs.declared.errno.Errno.{Errno}
 use Rattle.qx_types.specs.declared.names.Manager.{Manager}
 use Rattle.qx_types.specs.declared.names.Proc.{Proc}
 use Rattle.qx_types.specs.declared.names.Thread.{Thread}
@@ -26,7 +26,7 @@ use Rattle.qx_machine.specs.Processes.{Process, answered_thread}
 use Rattle.qx_isolation.specs.Rows.{row_at, with_row}
 use Rattle.qx_queues.specs.Queues.{unblock_call, UsersAnswer}
 use Rattle.qx_shared.specs.Shared.{Shared, users_given, with_shared_disconnect, with_shared_line}
-use Rattle.qx_procs.specs.Calls.{LosesAt}
+use Rattle.qx_clients.specs.Calls.{LosesAt}
 use Rattle.qx_chan.specs.inner.Answers.{given_lines, given_users}
 use Rattle.qx_chan.specs.inner.Calls.{taken_call}
 use Rattle.qx_chan.specs.Channel.{failed}

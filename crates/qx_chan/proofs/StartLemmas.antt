@@ -8,7 +8,7 @@ use Rattle.std.proofs.lemmas.Bool.Decides.{eqb_tells, nat_tests}
 use Rattle.std.proofs.lemmas.List.{get_or-replicate, length-replicate}
 use Rattle.qx_types.proofs.Managers.{number_below}
 use Rattle.qx_types.specs.Managers.{manager_count, manager_number}
-use Rattle.qx_errno.specs.declared.Errno.TheVariants.{EAGAIN, EINVAL}
+use Rattle.qx_base.specs.declared.errno.Errno.TheVariants.{EAGAIN, EINVAL}
 use Rattle.qx_types.specs.declared.limits.TheConstants.Limits.{PROCESSES, THREADS}
 use Rattle.qx_types.specs.UserLimits.{UserLimits}
 use Rattle.qx_types.specs.declared.names.Manager.{Manager}
@@ -25,7 +25,7 @@ use Rattle.qx_machine.specs.Processes.{Process, new_process, new_thread}
 use Rattle.qx_machine.specs.Servers.{in_use, no_servers}
 use Rattle.qx_isolation.specs.Rows.{row_at, lowest_from, put_row, with_row}
 use Rattle.qx_isolation.proofs.Places.{lowest_from_free}
-use Rattle.qx_procs.specs.Calls.{has_ended_in, spawned}
+use Rattle.qx_clients.specs.Calls.{has_ended_in, spawned}
 use Rattle.qx_queues.specs.inner.Queues.{is_thread_of}
 use Rattle.qx_queues.specs.Queues.{stands, unblock_call, thread_cmp, server_cmp}
 use Rattle.qx_shared.specs.Shared.{Shared, has_thread, nothing_shared, waiting_in, with_shared_process, users_waiting, waiting_calls}
@@ -36,7 +36,7 @@ use Rattle.qx_shared.proofs.PresenceLemmas.{has-process, lines-process, servers-
 use Rattle.qx_chan.specs.Channel.{Channel, after_spawn}
 use Rattle.qx_chan.specs.inner.Users.{HasPlace}
 use Rattle.qx_chan.specs.Users.{Users, no_processes, process_of_user, process_of, spawn_number_in, thread_row}
-use Rattle.qx_process.proofs.RowLemmas.{row_at-get_or, set-row, with_row-none}
+use Rattle.qx_rows.proofs.RowLemmas.{row_at-get_or, set-row, with_row-none}
 use Rattle.qx_process.proofs.ServerLemmas.{line_at-get_or}
 use Rattle.qx_chan.specs.inner.Kept.{IsWaiting, StandTogether, asked_call, has_nodes, stands_at, waits_for}
 use Rattle.qx_chan.specs.Nodes.{room_started, served_at}

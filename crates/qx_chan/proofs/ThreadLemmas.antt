@@ -18,7 +18,7 @@ use Rattle.qx_isolation.specs.Rows.{row_at, with_row}
 use Rattle.qx_process.specs.Reads.{is_served}
 use Rattle.qx_queues.specs.Queues.{UsersCall, caller, stands, unblock_call}
 use Rattle.qx_shared.specs.Shared.{Shared, waiting_in}
-use Rattle.qx_procs.specs.Calls.{has_ended_in}
+use Rattle.qx_clients.specs.Calls.{has_ended_in}
 use Rattle.qx_chan.specs.Users.{Users, process_of, thread_row, with_process_of, with_thread_row}
 use Rattle.qx_chan.specs.inner.Kept.{IsWaiting, StandTogether, asked_call, has_nodes, may_wait, nodes_for, stands_at, waits_for}
 use Rattle.qx_chan.specs.Nodes.{served_at}

@@ -13,7 +13,7 @@ use Rattle.qx_queues.specs.Queues.{UsersCall, caller, is_same_thread}
 use Rattle.qx_queues.proofs.EntryLemmas.{is_same_thread-differs, is_same_thread-self}
 use Rattle.qx_queues.proofs.NodesLemmas.{same_or_not}
 use Rattle.qx_chan.specs.inner.Kept.{IsWaiting, may_wait, waits_for}
-use Rattle.qx_procs.specs.Calls.{has_ended_in}
+use Rattle.qx_clients.specs.Calls.{has_ended_in}
 use Rattle.qx_chan.specs.Users.{Users, process_of, thread_row}
 
 -- where each thread that waits for a call does so still, and each process that has ended is there still

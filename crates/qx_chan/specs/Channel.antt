@@ -3,8 +3,8 @@ use Rattle.std.specs.Prelude.{⊤, ℕ, Bool, true, false, ◌+◌, [], ◌∷�
 use Rattle.qx_types.specs.UserLimits.{UserLimits}
 use Rattle.qx_types.specs.Configuration.{Configuration}
 use Rattle.qx_types.specs.Managers.{manager_count, manager_number}
-use Rattle.qx_errno.specs.declared.Errno.{Errno}
-use Rattle.qx_errno.specs.declared.Errno.TheVariants.{EINTR}
+use Rattle.qx_base.specs.declared.errno.Errno.{Errno}
+use Rattle.qx_base.specs.declared.errno.Errno.TheVariants.{EINTR}
 use Rattle.qx_types.specs.declared.names.Manager.{Manager}
 use Rattle.qx_types.specs.declared.names.Proc.{Proc}
 use Rattle.qx_types.specs.declared.names.Thread.{Thread}
@@ -32,7 +32,7 @@ use Rattle.qx_machine.specs.Processes.{Process, after_error, answered_thread, as
 use Rattle.qx_machine.specs.Settling.{row_left}
 use Rattle.qx_machine.specs.Waiting.{Pipes, no_pipes}
 use Rattle.qx_isolation.specs.Rows.{row_at, with_row}
-use Rattle.qx_procs.specs.Calls.{after_or, spawned, with_prio}
+use Rattle.qx_clients.specs.Calls.{after_or, spawned, with_prio}
 use Rattle.qx_queues.specs.Queues.{message_of, nodes_freed, sender, unblock_of}
 use Rattle.qx_resources.specs.declared.tables.Tables.{Tables}
 use Rattle.qx_shared.specs.Shared.{nothing_shared}

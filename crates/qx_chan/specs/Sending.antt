@@ -1,6 +1,6 @@
 -- How a call of a thread is judged and sent, and what memory it wants.
 use Rattle.std.specs.Prelude.{⊤, ℕ, false, List, Option, Some, None, Result, Ok, Err, IfSome, IsTrue}
-use Rattle.qx_bytes.specs.Memory.{FitInto, kept_beside}
+use Rattle.qx_base.specs.Memory.{FitInto, kept_beside}
 use Rattle.qx_types.specs.Configuration.{Configuration}
 use Rattle.qx_types.specs.declared.names.Thread.{Thread}
 use Rattle.qx_types.specs.declared.outcome.Outcome.{Outcome}

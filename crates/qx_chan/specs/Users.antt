@@ -13,7 +13,7 @@ use Rattle.qx_machine.specs.Parts.{thread_of}
 use Rattle.qx_machine.specs.Processes.{Process, with_thread}
 use Rattle.qx_isolation.specs.Rows.{row_at, with_row}
 use Rattle.qx_process.specs.Reads.{UsesBy}
-use Rattle.qx_procs.specs.Calls.{done_or, with_prio}
+use Rattle.qx_clients.specs.Calls.{done_or, with_prio}
 
 -- by user and by process, both from 1
 abbrev pub Users : Type 0

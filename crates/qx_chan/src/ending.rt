@@ -5,7 +5,7 @@ ghost use Rattle.std.specs.Option.{option_copied};
 ghost use Rattle.qx_types.specs.Managers.{manager_count};
 ghost use Rattle.qx_machine.specs.Processes.{living};
 ghost use Rattle.qx_chan.specs.Channel.{after_exit, after_freeing, exit_outcome};
-ghost use Rattle.qx_procs.specs.Calls.{has_ended_in};
+ghost use Rattle.qx_clients.specs.Calls.{has_ended_in};
 ghost use Rattle.qx_chan.specs.Users.{process_of, thread_row};
 ghost use Rattle.qx_chan.specs.inner.Ending.{Drops, DropsBelow, StandsFor};
 

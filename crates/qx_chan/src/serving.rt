@@ -2,7 +2,7 @@
 
 ghost use Rattle.std.specs.Prelude.{◌≡◌, false, Ok, Option, Some, IfOk, IfSome, IsFalse, IsOk, IsSome, IsTrue, None, OnErr, OnOk, vec_capacity};
 ghost use Rattle.std.specs.Option.{option_copied};
-ghost use Rattle.qx_bytes.specs.Memory.{Leave};
+ghost use Rattle.qx_base.specs.Memory.{Leave};
 ghost use Rattle.qx_types.specs.Managers.{manager_number};
 ghost use Rattle.qx_wire.specs.Reading as reading;
 ghost use Rattle.qx_machine.specs.Machine.{line_without};
@@ -29,7 +29,8 @@ use crate::call::{self, Call};
 use crate::channel::Channel;
 use crate::servers;
 use qx_machine::{Caller, Client, ServerName};
-use qx_process::{Process, Replied, Reply, Room};
+use qx_process::{Process, Replied};
+use qx_rows::{Reply, Room};
 use qx_resmgr::Done;
 use qx_resources::{Resources, context_of};
 use qx_shared::Shared;

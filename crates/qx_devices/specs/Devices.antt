@@ -4,7 +4,7 @@ use Rattle.std.specs.List.{find, flat_map, range_with_len}
 use Rattle.std.specs.Str.{bytes_eq}
 use Rattle.std.specs.Option.{option_to_list}
 use Rattle.std.proofs.Math.Decide.{dec_lt}
-use Rattle.qx_device.specs.Verdict.{Verdict}
+use Rattle.qx_base.specs.Verdict.{Verdict}
 use Rattle.qx_devices.specs.Count.{device_count}
 use Rattle.qx_devices.specs.Listed.{listed}
 use Rattle.qx_devices.specs.Row.{Row, no_row}

@@ -1,6 +1,6 @@
 -- A latch: a write sets it, a read waits until it is set, and a write of no bytes takes what is set away.
 use Rattle.std.specs.Prelude.{ℕ, List, [], ◌∷◌, ◌==◌, Bool, true, not, length, min, take}
-use Rattle.qx_device.specs.Verdict.{Verdict, Waits, Gives}
+use Rattle.qx_base.specs.Verdict.{Verdict, Waits, Gives}
 
 -- a read of at most so many bytes, where these are set; they stay
 unfoldable pub read_verdict : ℕ → List ℕ → Verdict

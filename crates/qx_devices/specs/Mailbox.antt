@@ -1,7 +1,7 @@
 -- A mailbox for one message: a write puts one in, and waits while one is there; a read takes it, and waits until one is there.
 use Rattle.std.specs.Prelude.{ℕ, List, [], ◌∷◌, ◌==◌, Bool, not, length, min, take}
-use Rattle.qx_errno.specs.declared.Errno.TheVariants.{EINVAL}
-use Rattle.qx_device.specs.Verdict.{Verdict, Waits, Gives, Fails}
+use Rattle.qx_base.specs.declared.errno.Errno.TheVariants.{EINVAL}
+use Rattle.qx_base.specs.Verdict.{Verdict, Waits, Gives, Fails}
 
 -- a read of at most so many bytes takes the message, and what doesn't fit is lost
 unfoldable pub read_verdict : ℕ → List ℕ → Verdict

@@ -16,9 +16,9 @@
 --   all others          EINVAL
 use Rattle.std.specs.Prelude.{ℕ, ◌-◌, ◌==◌, ◌||◌, ◌++◌, Bool, true, false, cond, List, [], ◌∷◌, Option, Some, None, Result, Ok, Err, length, min, nat_le, take}
 use Rattle.std.specs.Int.{w16, from_le_bytes, to_le_bytes}
-use Rattle.qx_errno.specs.declared.Errno.{Errno}
-use Rattle.qx_errno.specs.declared.Errno.TheVariants.{EBUSY, EINVAL}
-use Rattle.qx_device.specs.Verdict.{Verdict, Gives, Fails}
+use Rattle.qx_base.specs.declared.errno.Errno.{Errno}
+use Rattle.qx_base.specs.declared.errno.Errno.TheVariants.{EBUSY, EINVAL}
+use Rattle.qx_base.specs.Verdict.{Verdict, Gives, Fails}
 use Rattle.qx_devices.specs.declared.pump.Command.{Command}
 use Rattle.qx_devices.specs.declared.pump.Command.TheVariants as command
 use Rattle.qx_devices.specs.declared.pump.Doing.{Doing}

@@ -1,6 +1,6 @@
 -- What is listed of a device.
 use Rattle.std.specs.Prelude.{ℕ, List, [], Bool, false}
-use Rattle.qx_device.specs.Verdict.{Verdict, Waits}
+use Rattle.qx_base.specs.Verdict.{Verdict, Waits}
 
 -- the word by which a script names it, and what a call to it comes to: a read of at most so many bytes, a write of bytes; the last
 -- two say whether a read, and whether a write, would not wait

@@ -6,15 +6,15 @@
 #![tactic(auto)]
 
 ghost use Rattle.std.specs.Prelude.{◌≡◌, ◌<◌, ◌≤◌, [], length, slice_get};
-ghost use Rattle.qx_device.specs.Verdict.{left_by};
-ghost use Rattle.qx_device.specs.declared.TheConstants.{STATE};
+ghost use Rattle.qx_base.specs.Verdict.{left_by};
+ghost use Rattle.qx_base.specs.declared.device.TheConstants.{STATE};
 ghost use Rattle.qx_devices.specs.Count.{device_count};
 
 mod latch;
 mod mailbox;
 pub mod pump;
 
-use qx_device::{Given, State, Told};
+use qx_base::{Given, State, Told};
 
 /// A device that is listed: its definitions and its code are those of its name.
 #[derive(Clone, Copy, Debug, PartialEq, Eq)]

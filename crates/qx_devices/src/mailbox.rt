@@ -1,12 +1,11 @@
 //! The mailbox, a device: `Mailbox.antt` says what calls come to.
 
 ghost use Rattle.std.specs.Prelude.{◌≡◌, ◌≤◌, [], length};
-ghost use Rattle.qx_device.specs.Verdict.{left_by};
-ghost use Rattle.qx_device.specs.declared.TheConstants.{STATE};
+ghost use Rattle.qx_base.specs.Verdict.{left_by};
+ghost use Rattle.qx_base.specs.declared.device.TheConstants.{STATE};
 ghost use Rattle.qx_devices.specs.Mailbox.{has_input, has_output, read_verdict, write_verdict};
 
-use qx_device::{Given, State, Told};
-use qx_errno::Errno;
+use qx_base::{Errno, Given, State, Told};
 
 /// A read of at most so many bytes (C Library Reference: `read`).
 #[tactic(auto, unfolding(crate::specs::Mailbox::read_verdict))]

@@ -1,12 +1,11 @@
 //! A syringe pump, a device: `Pump.antt` says what calls come to, by what a pump is and what it is told, which are named here.
 
 ghost use Rattle.std.specs.Prelude.{◌≡◌, ◌≤◌, [], length};
-ghost use Rattle.qx_device.specs.Verdict.{left_by};
-ghost use Rattle.qx_device.specs.declared.TheConstants.{STATE};
+ghost use Rattle.qx_base.specs.Verdict.{left_by};
+ghost use Rattle.qx_base.specs.declared.device.TheConstants.{STATE};
 ghost use Rattle.qx_devices.specs.Pump.{bytes_of, command_of, command_with, doing_of, has_input, has_output, plain_command, pump_of, read_verdict, told, write_verdict};
 
-use qx_device::{Given, State, Told};
-use qx_errno::Errno;
+use qx_base::{Errno, Given, State, Told};
 
 /// What a pump is: how many microlitres a tick gives, how many are left, and what it does.
 #[derive(Clone, Copy, Debug, PartialEq, Eq)]

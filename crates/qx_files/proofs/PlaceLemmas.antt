@@ -7,7 +7,7 @@ use Rattle.std.proofs.lemmas.List.Folds.{sum_by-replicate}
 use Rattle.std.proofs.lemmas.List.Sums.{sum_by-append, sum_by-set}
 use Rattle.qx_isolation.specs.Rows.{row_at}
 use Rattle.qx_isolation.proofs.Places.{row_at-set_cases, row_at-set_other}
-use Rattle.qx_process.proofs.RowLemmas.{row_at-get_or}
+use Rattle.qx_rows.proofs.RowLemmas.{row_at-get_or}
 use Rattle.qx_files.specs.Blocks.{count_of}
 use Rattle.qx_files.specs.inner.Places.{InOrder, InRun, Stand, Stay, byte_after, byte_at, byte_in, pasted, place_of, there}
 use Rattle.qx_files.proofs.BlockLemmas.{byte_pasted, in_put, not_put, there_at, there-none, there-set}

@@ -6,7 +6,7 @@ use Rattle.std.proofs.lemmas.Option.{unwrap_or-slice_get}
 use Rattle.qx_attr.proofs.CountLemmas.{row-set_same, within_table}
 use Rattle.qx_machine.specs.Files.{size_of}
 use Rattle.qx_isolation.specs.Rows.{row_at, with_row}
-use Rattle.qx_process.proofs.RowLemmas.{with_row-none}
+use Rattle.qx_rows.proofs.RowLemmas.{with_row-none}
 
 pub total_set : (contents : List (Option (List ℕ))) (n : ℕ) (bytes : List ℕ) (now : Option (List ℕ)) → row_at contents n ≡ Some bytes → sum_by size_of (slice_set contents n now) + length bytes ≡ sum_by size_of contents + size_of now
 total_set contents n bytes now is =

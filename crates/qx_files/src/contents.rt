@@ -7,7 +7,7 @@ ghost use Rattle.qx_types.specs.declared.limits.TheConstants.Limits.{INODES};
 ghost use Rattle.qx_files.specs.inner.Lends.{lends_bytes};
 
 use crate::data::Data;
-use qx_process::places;
+use qx_rows::places;
 use qx_types::Limits;
 use std::alloc::{AllocError, Global};
 use std::marker::Model;

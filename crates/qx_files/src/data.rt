@@ -4,7 +4,7 @@ ghost use Rattle.qx_machine.specs.Files.{get};
 ghost use Rattle.qx_types.specs.declared.limits.TheConstants.Limits.{BODY};
 
 use crate::places::{BLOCK, first_run, write_bytes};
-use qx_process::Reply;
+use qx_rows::Reply;
 use std::alloc::{AllocError, Global};
 use std::marker::Model;
 

@@ -6,7 +6,7 @@ ghost use Rattle.qx_files.specs.inner.Places.{HasAll, InOrder, InRun, LacksOne, 
 ghost use Rattle.qx_isolation.specs.Rows.{row_at};
 
 use qx_attr::growth;
-use qx_process::places;
+use qx_rows::places;
 use std::alloc::AllocError;
 use std::mem::replace;
 

@@ -14,7 +14,7 @@ use Rattle.qx_machine.specs.Pipes.{Pipe, pipe_of}
 use Rattle.qx_machine.specs.Resources.{Resources}
 use Rattle.qx_isolation.specs.Rows.{row_at, put_row, with_row}
 use Rattle.qx_machine.specs.Waiting.{Pipes, is_gone}
-use Rattle.qx_procs.specs.Calls.{has_ended_in}
+use Rattle.qx_clients.specs.Calls.{has_ended_in}
 use Rattle.qx_invariants.specs.Changes.{Abandons, ResourceChange, Closes, Comes, Fills, MayHappen, Mounts, Unlinks, with_change, with_named, with_unlinked}
 use Rattle.qx_invariants.specs.Holds.{HasOpenWaiters, calls_of, in_inode}
 use Rattle.qx_invariants.specs.Waits.{count_answers_to, count_waiting, count_waiting_in, count_waiting_of, is_of, though_gone, unless_gone, waits, count_state_waiting}

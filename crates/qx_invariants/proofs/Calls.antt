@@ -6,9 +6,9 @@ use Rattle.std.proofs.lemmas.Bool.{cases_lt, cond_both, leb-true}
 use Rattle.std.proofs.lemmas.List.Filters.{sum_by-filter_both}
 use Rattle.std.proofs.lemmas.List.Sums.{sum_by-append, sum_by-cons}
 use Rattle.std.proofs.lemmas.Option.{same_Some}
-use Rattle.qx_errno.specs.declared.Errno.TheVariants.{EBADF, EINTR, ENOSPC}
-use Rattle.qx_device.specs.Verdict.{Verdict, Waits, Gives, Fails}
-use Rattle.qx_device.specs.declared.TheConstants.{STATE}
+use Rattle.qx_base.specs.declared.errno.Errno.TheVariants.{EBADF, EINTR, ENOSPC}
+use Rattle.qx_base.specs.Verdict.{Verdict, Waits, Gives, Fails}
+use Rattle.qx_base.specs.declared.device.TheConstants.{STATE}
 use Rattle.qx_devices.specs.Devices.{read_verdict, write_verdict}
 use Rattle.qx_devices.specs.declared.Device.{Device}
 use Rattle.qx_types.specs.declared.limits.TheConstants.Limits.{PIPE}

@@ -8,8 +8,8 @@ use Rattle.std.proofs.lemmas.Option.{same_Some}
 use Rattle.qx_types.specs.Configuration.{Configuration, limits_of, name_bytes}
 use Rattle.qx_types.proofs.LimitLemmas.{limits_within}
 use Rattle.qx_types.specs.UserLimits.{UserLimits}
-use Rattle.qx_errno.specs.declared.Errno.{Errno}
-use Rattle.qx_errno.specs.declared.Errno.TheVariants.{EAGAIN, EINTR, EINVAL}
+use Rattle.qx_base.specs.declared.errno.Errno.{Errno}
+use Rattle.qx_base.specs.declared.errno.Errno.TheVariants.{EAGAIN, EINTR, EINVAL}
 use Rattle.qx_types.specs.declared.limits.TheConstants.Limits.{CALLS, INODES, THREADS}
 use Rattle.qx_types.specs.declared.names.Manager.{Manager}
 use Rattle.qx_types.specs.declared.names.Thread.{Thread}
@@ -59,7 +59,7 @@ use Rattle.qx_machine.specs.Users.{boot_part, client, serve, settle_part, take}
 use Rattle.qx_isolation.proofs.Places.{lowest_from_free}
 use Rattle.qx_machine.proofs.Settled.{row_at-left}
 use Rattle.qx_machine.proofs.Waiters.{opened_by-caller}
-use Rattle.qx_procs.specs.Calls.{has_ended_in}
+use Rattle.qx_clients.specs.Calls.{has_ended_in}
 use Rattle.qx_invariants.specs.Holds.{WaitsOnce}
 use Rattle.qx_invariants.specs.Waits.{count_answers_to, count_state_waiting, count_waiting, count_waiting_in, is_of, though_gone, unless_gone, waits}
 use Rattle.qx_attr.specs.inner.Counts.{one}

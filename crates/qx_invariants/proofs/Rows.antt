@@ -4,8 +4,8 @@ use Rattle.std.specs.Prelude.{List, [], ◌∷◌, Option, Some, None, Ok, Err, 
 use Rattle.std.specs.List.{list_any}
 use Rattle.std.proofs.lemmas.Bool.{cases_eq, cond_both, leb-true}
 use Rattle.std.proofs.lemmas.Option.{same_Some}
-use Rattle.qx_errno.specs.declared.Errno.{Errno}
-use Rattle.qx_errno.specs.declared.Errno.TheVariants.{ENFILE, ENOSPC}
+use Rattle.qx_base.specs.declared.errno.Errno.{Errno}
+use Rattle.qx_base.specs.declared.errno.Errno.TheVariants.{ENFILE, ENOSPC}
 use Rattle.qx_devices.specs.declared.Device.{Device}
 use Rattle.qx_machine.specs.declared.rows.Kind.{Kind}
 use Rattle.qx_machine.specs.declared.rows.Kind.TheVariants as kind

@@ -3,8 +3,8 @@ use Rattle.std.proofs.Common.{◌≡◌, ℕ, List, [], ◌∷◌, Bool, true, r
 use Rattle.std.specs.Prelude.{Some, Result, Ok, Err, IfOk}
 use Rattle.std.specs.FinMap.{get}
 use Rattle.std.specs.List.{AllByRecursion}
-use Rattle.qx_errno.specs.declared.Errno.{Errno}
-use Rattle.qx_errno.specs.declared.Errno.TheVariants.{ENOENT, ENOTDIR}
+use Rattle.qx_base.specs.declared.errno.Errno.{Errno}
+use Rattle.qx_base.specs.declared.errno.Errno.TheVariants.{ENOENT, ENOTDIR}
 use Rattle.qx_wire.specs.Rests.{is_component}
 use Rattle.qx_machine.specs.declared.rows.Attribute.{Attribute}
 use Rattle.qx_isolation.specs.Judgements.{found, need}

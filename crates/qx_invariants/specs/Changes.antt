@@ -2,7 +2,7 @@
 use Rattle.std.specs.Prelude.{◌+◌, ◌-◌, ◌≡◌, ◌≤◌, ◌<◌, ◌⊎◌, ◌++◌, length, map, option_map, slice_set, ℕ, Bool, true, List, [], ◌∷◌, Option, Some, None, Ok, is_some, false}
 use Rattle.std.specs.List.{count_by}
 use Rattle.std.specs.FinMap.{get, insert, remove}
-use Rattle.qx_device.specs.declared.TheConstants.{STATE}
+use Rattle.qx_base.specs.declared.device.TheConstants.{STATE}
 use Rattle.qx_devices.specs.declared.Device.{Device}
 use Rattle.qx_types.specs.declared.limits.TheConstants.Limits.{LAST_CONNECTION, PIPE}
 use Rattle.qx_machine.specs.Files.{total_size}

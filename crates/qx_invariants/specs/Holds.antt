@@ -36,7 +36,7 @@ use Rattle.qx_isolation.specs.Rows.{row_at}
 use Rattle.qx_machine.specs.Runs.{run}
 use Rattle.qx_machine.specs.Servers.{in_use}
 use Rattle.qx_machine.specs.Waiting.{is_of_process}
-use Rattle.qx_procs.specs.Calls.{has_ended_in}
+use Rattle.qx_clients.specs.Calls.{has_ended_in}
 use Rattle.qx_invariants.specs.Changes.{IsDirectoryAt, IsPipeSettled, IsShort}
 use Rattle.qx_invariants.specs.Waits.{count_waiting, count_waiting_in, is_astray, is_foreign, is_of, though_gone, unless_gone, waits}
 

@@ -18,7 +18,7 @@ use Rattle.qx_machine.specs.Names.{Key, Names, key_cmp}
 use Rattle.qx_isolation.specs.Rows.{put_row, row_at, with_row}
 use Rattle.qx_names.specs.Paths.{HasNoPath}
 use Rattle.qx_names.specs.inner.Shows.{key_total}
-use Rattle.qx_process.proofs.RowLemmas.{with_row-none}
+use Rattle.qx_rows.proofs.RowLemmas.{with_row-none}
 
 -- ---- whether an inode is unused
 

@@ -28,8 +28,8 @@ use Rattle.qx_machine.specs.Names.{Names, is_directory, Spot, Key, is_empty, roo
 use Rattle.qx_machine.specs.RamManager.{emptied, with_bytes}
 use Rattle.qx_machine.specs.Resources.{Resources, with_empty}
 use Rattle.qx_isolation.specs.Rows.{lowest_from, put_row, row_at}
-use Rattle.qx_errno.specs.declared.Errno.{Errno}
-use Rattle.qx_errno.specs.declared.Errno.TheVariants.{EACCES, EEXIST, EISDIR, ENFILE, ENOENT}
+use Rattle.qx_base.specs.declared.errno.Errno.{Errno}
+use Rattle.qx_base.specs.declared.errno.Errno.TheVariants.{EACCES, EEXIST, EISDIR, ENFILE, ENOENT}
 use Rattle.qx_types.specs.declared.flags.OFlags.{OFlags}
 use Rattle.qx_types.specs.declared.flags.TheConstants.OFlags.{CREAT, EXCL, TRUNC}
 use Rattle.std.specs.FinMap.{insert, get}

@@ -9,8 +9,8 @@ use Rattle.std.proofs.lemmas.Bool.{and_parts, cases_eq}
 use Rattle.std.proofs.lemmas.Bool.Decides.{nat_tests}
 use Rattle.std.proofs.lemmas.Option.{same_Some}
 use Rattle.qx_attr.proofs.CountLemmas.{row-set_same, within_table}
-use Rattle.qx_errno.specs.declared.Errno.{Errno}
-use Rattle.qx_errno.specs.declared.Errno.TheVariants.{EBUSY, EISDIR, ENOENT, ENOTDIR, ENOTEMPTY}
+use Rattle.qx_base.specs.declared.errno.Errno.{Errno}
+use Rattle.qx_base.specs.declared.errno.Errno.TheVariants.{EBUSY, EISDIR, ENOENT, ENOTDIR, ENOTEMPTY}
 use Rattle.qx_isolation.specs.Judgements.{◌>>=◌, found, need}
 use Rattle.qx_isolation.specs.Rows.{row_at}
 use Rattle.qx_machine.specs.declared.rows.Attribute.{Attribute}

@@ -31,9 +31,9 @@ use Rattle.qx_machine.specs.RamManager.{emptied, with_bytes}
 use Rattle.qx_machine.specs.Resources.{Resources, resized}
 use Rattle.qx_isolation.specs.Rows.{lowest_from, put_row, row_at, with_row}
 use Rattle.qx_names.specs.Paths.{HasNoPath}
-use Rattle.qx_process.proofs.RowLemmas.{with_row-none}
-use Rattle.qx_errno.specs.declared.Errno.{Errno}
-use Rattle.qx_errno.specs.declared.Errno.TheVariants.{EBADF, EMFILE, ENOSPC}
+use Rattle.qx_rows.proofs.RowLemmas.{with_row-none}
+use Rattle.qx_base.specs.declared.errno.Errno.{Errno}
+use Rattle.qx_base.specs.declared.errno.Errno.TheVariants.{EBADF, EMFILE, ENOSPC}
 use Rattle.qx_types.specs.UserLimits.{AreLimits, UserLimits}
 use Rattle.qx_types.specs.declared.flags.OFlags.{OFlags}
 use Rattle.qx_types.specs.declared.flags.TheConstants.OFlags.{TRUNC}

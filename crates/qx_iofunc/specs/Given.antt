@@ -1,7 +1,7 @@
 -- What a function gave, as a deed, with what it left.
 use Rattle.std.specs.Prelude.{ℕ, List, [], Option, Some, Result, Ok, Err, if◌then◌else◌}
 use Rattle.arrayvec.specs.ArrayVec.{ArrayVec}
-use Rattle.qx_errno.specs.declared.Errno.{Errno}
+use Rattle.qx_base.specs.declared.errno.Errno.{Errno}
 use Rattle.qx_types.specs.declared.names.Coid.{Coid}
 use Rattle.qx_iofunc.specs.declared.found.Opening.{Opening}
 use Rattle.qx_machine.specs.declared.rows.Effect.TheVariants.{Keeps, Opens}

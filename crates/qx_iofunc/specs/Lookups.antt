@@ -16,7 +16,7 @@ use Rattle.qx_machine.specs.Names.{Names, under}
 use Rattle.qx_machine.specs.Resources.{Resources}
 use Rattle.qx_names.specs.Paths.{HasPath, path_of}
 use Rattle.qx_names.specs.Spots.{spot_of}
-use Rattle.qx_errno.specs.declared.Errno.{Errno}
+use Rattle.qx_base.specs.declared.errno.Errno.{Errno}
 use Rattle.qx_types.specs.declared.flags.OFlags.{OFlags}
 
 abbrev pub open_found : Kind → Resources → NewOpen → Lookup → Wish → Result (Deed Resources) Errno

@@ -1,7 +1,7 @@
 -- Whether a path's target may be opened or made, in the order in which that is judged.
 use Rattle.std.specs.Prelude.{ℕ, ◌&&◌, not, Result, Ok}
-use Rattle.qx_errno.specs.declared.Errno.{Errno}
-use Rattle.qx_errno.specs.declared.Errno.TheVariants.{EACCES, EEXIST, EISDIR, ENOENT}
+use Rattle.qx_base.specs.declared.errno.Errno.{Errno}
+use Rattle.qx_base.specs.declared.errno.Errno.TheVariants.{EACCES, EEXIST, EISDIR, ENOENT}
 use Rattle.qx_types.specs.declared.flags.OFlags.{OFlags}
 use Rattle.qx_types.specs.declared.flags.TheConstants.OFlags.{CREAT, EXCL}
 use Rattle.qx_iofunc.specs.declared.found.New.{New}

@@ -14,7 +14,7 @@ use crate::found::Closed;
 use crate::store::Store;
 use qx_attr::{Inodes, Ocb, Status};
 use qx_machine::{Attribute, Kind, Opened};
-use qx_process::Reply;
+use qx_rows::Reply;
 use qx_types::Errno;
 
 /// The number of the root of a user's top.

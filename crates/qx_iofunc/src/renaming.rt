@@ -12,7 +12,7 @@ ghost use Rattle.qx_machine.specs.declared.rows.Kind.TheVariants.{File};
 ghost use Rattle.qx_names.specs.Paths.{HasPath};
 ghost use Rattle.qx_names.specs.Spots.{spot_of};
 ghost use Rattle.qx_wire.specs.Rests.{is_rest};
-ghost use Rattle.qx_errno.specs.declared.Errno.{Errno as Errors};
+ghost use Rattle.qx_base.specs.declared.errno.Errno.{Errno as Errors};
 
 use crate::entries::{changed, is_root, may_replace, writable};
 use crate::store::Store;

@@ -12,7 +12,7 @@
 //!
 //! What contracts see is `Table.antt`, and of a value that is lent `Lends.antt`. A caller uses the ruleset
 //! `table_facts` (`proofs/TableFacts.antt`): named in `using(..)`, calls in a row need no answer, as `linked` in
-//! `lower_tests`. What it speaks of stays closed to the prover: `StandsNowhere`, which `stands_nowhere` and
+//! `test_lower`. What it speaks of stays closed to the prover: `StandsNowhere`, which `stands_nowhere` and
 //! `nowhere_from` open and close.
 #![tactic(auto)]
 

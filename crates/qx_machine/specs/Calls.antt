@@ -1,8 +1,8 @@
 -- How a call of a thread is judged, and what it sends.
 use Rattle.std.specs.Prelude.{ℕ, ◌+◌, ⊤, List, [], ◌&&◌, ◌||◌, ◌==◌, Bool, true, false, Option, Some, None, Result, Ok, length, nat_le, nat_lt, count_by, is_some, sum_by}
 use Rattle.qx_types.specs.Configuration.{Configuration, limits_of, name_bytes}
-use Rattle.qx_errno.specs.declared.Errno.{Errno}
-use Rattle.qx_errno.specs.declared.Errno.TheVariants.{EAGAIN, EBADF, EINVAL, EMFILE, EXDEV}
+use Rattle.qx_base.specs.declared.errno.Errno.{Errno}
+use Rattle.qx_base.specs.declared.errno.Errno.TheVariants.{EAGAIN, EBADF, EINVAL, EMFILE, EXDEV}
 use Rattle.qx_types.specs.declared.fields.PulseValue.TheVariants.{Bits32, Bits64}
 use Rattle.qx_types.specs.declared.limits.TheConstants.Limits.{CALLS, FIRST_CONNECTION, LAST_CONNECTION, MESSAGE}
 use Rattle.qx_types.specs.declared.names.Manager.{Manager}

@@ -1,7 +1,7 @@
 -- What a client's step does to the rows of its user.
 use Rattle.std.specs.Prelude.{ℕ, Bool, false, true, if◌then◌else◌, List, [], ◌∷◌, ◌++◌, ◌+◌, ◌&&◌, Option, Some, None, Result, Ok, Err, map, nat_le, option_map}
 use Rattle.qx_types.specs.Configuration.{Configuration, limits_of, name_bytes}
-use Rattle.qx_errno.specs.declared.Errno.TheVariants.{EAGAIN, EINTR, EINVAL, EPERM}
+use Rattle.qx_base.specs.declared.errno.Errno.TheVariants.{EAGAIN, EINTR, EINVAL, EPERM}
 use Rattle.qx_types.specs.declared.limits.TheConstants.Limits.{THREADS}
 use Rattle.qx_types.specs.declared.names.Manager.{Manager}
 use Rattle.qx_types.specs.declared.names.Proc.{Proc}

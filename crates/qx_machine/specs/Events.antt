@@ -3,8 +3,8 @@
 -- directory is an argument.
 use Rattle.std.specs.Prelude.{ℕ, ◌+◌, ◌==◌, ◌&&◌, ◌||◌, not, Bool, List, [], ◌∷◌, ◌++◌, Option, Result, Ok, drop, filter, if◌then◌else◌, length, nat_lt, replicate, slice_get, sum_by}
 use Rattle.std.specs.Int.Bits.{bit_and, bit_or}
-use Rattle.qx_errno.specs.declared.Errno.{Errno}
-use Rattle.qx_errno.specs.declared.Errno.TheVariants.{EAGAIN}
+use Rattle.qx_base.specs.declared.errno.Errno.{Errno}
+use Rattle.qx_base.specs.declared.errno.Errno.TheVariants.{EAGAIN}
 use Rattle.qx_types.specs.declared.fields.NotifyAction.{NotifyAction}
 use Rattle.qx_types.specs.declared.fields.NotifyAction.TheVariants.{Poll, PollArm, TranArm}
 use Rattle.qx_types.specs.declared.fields.PulseValue.{PulseValue}

@@ -1,8 +1,8 @@
 -- The two tables of functions of a manager, each function as what it means (Writing a Resource Manager: resmgr_connect_funcs_t,
 -- resmgr_io_funcs_t). S is what the manager's functions work on.
 use Rattle.std.specs.Prelude.{ℕ, ℤ, Bool, true, false, List, [], Option, Some, None, Result, Ok}
-use Rattle.qx_errno.specs.declared.Errno.{Errno}
-use Rattle.qx_errno.specs.declared.Errno.TheVariants.{EINVAL, ENOSYS}
+use Rattle.qx_base.specs.declared.errno.Errno.{Errno}
+use Rattle.qx_base.specs.declared.errno.Errno.TheVariants.{EINVAL, ENOSYS}
 use Rattle.qx_types.specs.declared.fields.NotifyAction.{NotifyAction}
 use Rattle.qx_types.specs.declared.fields.Whence.{Whence}
 use Rattle.qx_types.specs.declared.names.Coid.{Coid}

@@ -1,6 +1,6 @@
 -- The managers, each as its tables of functions (Writing a Resource Manager: resmgr_connect_funcs_t, resmgr_io_funcs_t).
 use Rattle.std.specs.Prelude.{ℕ, List, [], ◌∷◌, ◌++◌, Some, None, Result, Ok, Err}
-use Rattle.qx_errno.specs.declared.Errno.{Errno}
+use Rattle.qx_base.specs.declared.errno.Errno.{Errno}
 use Rattle.qx_types.specs.declared.names.Manager.{Manager}
 use Rattle.qx_types.specs.declared.names.Manager.TheVariants as manager
 use Rattle.qx_wire.specs.declared.message.Message.{Message}

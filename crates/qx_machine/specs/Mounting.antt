@@ -1,8 +1,8 @@
 -- What a user's mounts and their roots are at boot, and once a manager is attached.
 use Rattle.std.specs.Prelude.{ℕ, List, [], ◌∷◌, Some, None, Result, Ok}
 use Rattle.std.specs.FinMap.{empty}
-use Rattle.qx_errno.specs.declared.Errno.{Errno}
-use Rattle.qx_errno.specs.declared.Errno.TheVariants.{EACCES}
+use Rattle.qx_base.specs.declared.errno.Errno.{Errno}
+use Rattle.qx_base.specs.declared.errno.Errno.TheVariants.{EACCES}
 use Rattle.qx_types.specs.declared.names.Manager.{Manager}
 use Rattle.qx_paths.specs.Mounts.{boot_mounts, mount_fault, mounted}
 use Rattle.qx_paths.specs.Paths.{read_path, unless}

@@ -6,8 +6,8 @@ use Rattle.std.specs.FinMap.{FinMap, entries, from_entries, get, insert}
 use Rattle.std.specs.List.{flat_map}
 use Rattle.std.specs.Ordering.{eq_by_cmp, is_lt, nat_cmp, on, then_cmp}
 use Rattle.std.specs.declared.cmp.Ordering.{Ordering}
-use Rattle.qx_errno.specs.declared.Errno.{Errno}
-use Rattle.qx_errno.specs.declared.Errno.TheVariants.{EACCES, ENOENT, ENOTDIR}
+use Rattle.qx_base.specs.declared.errno.Errno.{Errno}
+use Rattle.qx_base.specs.declared.errno.Errno.TheVariants.{EACCES, ENOENT, ENOTDIR}
 use Rattle.qx_devices.specs.Devices.{device_number}
 use Rattle.qx_types.specs.declared.limits.TheConstants.Limits.{TRANSFER}
 use Rattle.qx_machine.specs.declared.rows.Access.TheVariants.{Search}

@@ -1,8 +1,8 @@
 -- Notification: which conditions hold of what is open, and what a message that asks for it does (C Library Reference: ionotify; Writing a
 -- Resource Manager: iofunc_notify; that files and directories always have both is this profile).
 use Rattle.std.specs.Prelude.{ℕ, Bool, true, Option, Some, None, Result, Ok, []}
-use Rattle.qx_errno.specs.declared.Errno.{Errno}
-use Rattle.qx_errno.specs.declared.Errno.TheVariants.{EBADF}
+use Rattle.qx_base.specs.declared.errno.Errno.{Errno}
+use Rattle.qx_base.specs.declared.errno.Errno.TheVariants.{EBADF}
 use Rattle.qx_types.specs.declared.fields.NotifyAction.{NotifyAction}
 use Rattle.qx_machine.specs.declared.rows.Conditions.{Conditions}
 use Rattle.qx_machine.specs.declared.rows.Effect.TheVariants.{Keeps}

@@ -2,8 +2,8 @@
 -- pipe to be opened, and that a pipe mount has no directory but its root, is this profile).
 use Rattle.std.specs.Prelude.{ℕ, ℤ, not, List, [], Option, Some, None, Result, Ok, Err, position, length, slice_set, if◌then◌else◌}
 use Rattle.std.specs.List.{list_any}
-use Rattle.qx_errno.specs.declared.Errno.{Errno}
-use Rattle.qx_errno.specs.declared.Errno.TheVariants.{EBADF, EINVAL, EISDIR, ESPIPE}
+use Rattle.qx_base.specs.declared.errno.Errno.{Errno}
+use Rattle.qx_base.specs.declared.errno.Errno.TheVariants.{EBADF, EINVAL, EISDIR, ESPIPE}
 use Rattle.qx_types.specs.declared.fields.Whence.{Whence}
 use Rattle.qx_types.specs.declared.outcome.Outcome.{Outcome}
 use Rattle.qx_types.specs.declared.outcome.Outcome.TheVariants.{WrongState}

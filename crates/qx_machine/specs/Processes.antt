@@ -1,7 +1,7 @@
 -- Processes with their threads and connections, and how these change.
 use Rattle.std.specs.Prelude.{ℕ, Bool, false, true, ◌+◌, ◌==◌, ◌&&◌, List, [], ◌∷◌, Option, Some, None, if◌then◌else◌, is_none, is_some, length, map, nat_le, option_map, replicate, slice_set}
 use Rattle.std.specs.List.{flat_map, list_any}
-use Rattle.qx_bytes.specs.declared.message.TheConstants.MessageBytes.{INLINE}
+use Rattle.qx_base.specs.declared.message.TheConstants.MessageBytes.{INLINE}
 use Rattle.qx_types.specs.Managers.{manager_count, manager_number, managers}
 use Rattle.qx_types.specs.declared.limits.TheConstants.Limits.{FIRST_CONNECTION, THREADS}
 use Rattle.qx_types.specs.declared.names.Manager.{Manager}

@@ -1,7 +1,7 @@
 -- What the RAM manager does to the bytes of files (C Library Reference: open, read, write, lseek; the limits are this profile).
 use Rattle.std.specs.Prelude.{ℕ, ℤ, ◌+◌, ◌==◌, ◌&&◌, List, [], Some, Result, Ok, is_some, length, nat_le, slice_set, if◌then◌else◌}
-use Rattle.qx_errno.specs.declared.Errno.{Errno}
-use Rattle.qx_errno.specs.declared.Errno.TheVariants.{EBADF, EFBIG, EINVAL, EISDIR, ENOSPC}
+use Rattle.qx_base.specs.declared.errno.Errno.{Errno}
+use Rattle.qx_base.specs.declared.errno.Errno.TheVariants.{EBADF, EFBIG, EINVAL, EISDIR, ENOSPC}
 use Rattle.qx_types.specs.declared.fields.Whence.{Whence}
 use Rattle.qx_types.specs.declared.flags.OFlags.{OFlags}
 use Rattle.qx_types.specs.declared.flags.TheConstants.OFlags.{TRUNC}

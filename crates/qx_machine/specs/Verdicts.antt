@@ -1,9 +1,9 @@
 -- What a call comes to by the bytes that stand, where nobody waits before it: at a pipe, and at a device of an author's own, whose limits are
 -- kept here whatever it says.
 use Rattle.std.specs.Prelude.{◌==◌, ◌&&◌, ◌||◌, not, Bool, true, ℕ, ◌+◌, List, [], ◌∷◌, ◌++◌, length, take, drop, min, nat_le, nat_lt, Option, Some, None, if◌then◌else◌}
-use Rattle.qx_errno.specs.declared.Errno.TheVariants.{ENOSPC, EPIPE}
-use Rattle.qx_device.specs.Verdict.{Verdict, Waits, Gives, Fails}
-use Rattle.qx_device.specs.declared.TheConstants.{STATE}
+use Rattle.qx_base.specs.declared.errno.Errno.TheVariants.{ENOSPC, EPIPE}
+use Rattle.qx_base.specs.Verdict.{Verdict, Waits, Gives, Fails}
+use Rattle.qx_base.specs.declared.device.TheConstants.{STATE}
 use Rattle.qx_devices.specs.Devices.{has_input, has_output, read_verdict, write_verdict}
 use Rattle.qx_devices.specs.declared.Device.{Device}
 use Rattle.qx_types.specs.declared.limits.TheConstants.Limits.{PIPE}

@@ -5,8 +5,8 @@ use Rattle.std.proofs.Common.{◌≡◌, Bool, true, false, ap, refl, sym, ◌�
 use Rattle.std.proofs.Math.Bool.{or-true}
 use Rattle.std.proofs.lemmas.Bool.{cases_eq, eq-eqb, ne_eqb}
 use mathlib.Core.Logic.{inl, inr}
-use Rattle.qx_errno.specs.declared.Errno.{Errno}
-use Rattle.qx_errno.specs.declared.Errno.TheVariants.{ENOENT}
+use Rattle.qx_base.specs.declared.errno.Errno.{Errno}
+use Rattle.qx_base.specs.declared.errno.Errno.TheVariants.{ENOENT}
 use Rattle.qx_machine.specs.Inodes.{Inodes}
 use Rattle.qx_isolation.specs.Judgements.{◌>>=◌, found}
 use Rattle.qx_machine.specs.Names.{Key, Names, Spot, is_below, is_same_key, search, under, walk}

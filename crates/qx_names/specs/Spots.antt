@@ -1,6 +1,6 @@
 -- Where a walk ends.
 use Rattle.std.specs.Prelude.{Result, Ok, Err, ℕ, ◌≤◌, List, length}
-use Rattle.qx_errno.specs.declared.Errno.{Errno}
+use Rattle.qx_base.specs.declared.errno.Errno.{Errno}
 use Rattle.std.specs.List.{AllByRecursion}
 use Rattle.qx_types.specs.declared.limits.TheConstants.Limits.{COMPONENT}
 use Rattle.qx_machine.specs.Names as machine

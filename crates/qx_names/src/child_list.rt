@@ -13,7 +13,7 @@ use crate::entry::Entry;
 use crate::search::place_behind;
 use qx_attr::growth;
 use qx_lists::Table;
-use qx_process::Reply;
+use qx_rows::Reply;
 use qx_types::Limits;
 use std::alloc::{AllocError, Global};
 use std::marker::Model;

@@ -9,7 +9,7 @@ ghost use Rattle.qx_types.specs.declared.limits.TheConstants.Limits.{COMPONENT, 
 use crate::child_list::ChildList;
 use crate::entry::Entry;
 use qx_lists::Table;
-use qx_process::Reply;
+use qx_rows::Reply;
 use std::alloc::{AllocError, Global};
 use std::marker::Model;
 

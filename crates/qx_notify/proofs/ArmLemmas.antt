@@ -5,7 +5,7 @@ use Rattle.std.specs.List.{IsDistinct, list_any}
 use Rattle.std.proofs.lemmas.Bool.{cases_Bool}
 use Rattle.std.proofs.lemmas.Bool.Decides.{nat_tests}
 use Rattle.std.proofs.lemmas.List.{set-get_or}
-use Rattle.qx_errno.specs.declared.Errno.TheVariants.{EAGAIN}
+use Rattle.qx_base.specs.declared.errno.Errno.TheVariants.{EAGAIN}
 use Rattle.qx_types.specs.declared.limits.TheConstants.Limits.{EVENTS, PROCESSES}
 use Rattle.qx_lists.specs.Table.{Table, nodes_of}
 use Rattle.qx_machine.specs.declared.rows.Event.{Event}

@@ -5,7 +5,7 @@ use Rattle.std.specs.List.{list_all, position_or_len, slice_split}
 use Rattle.std.proofs.lemmas.Grind.{common_steps}
 use Rattle.std.proofs.lemmas.Option.{cond_some}
 use Rattle.std.proofs.lemmas.List.Splits.{slice_split-cons_yes}
-use Rattle.qx_errno.specs.declared.Errno.{Errno}
+use Rattle.qx_base.specs.declared.errno.Errno.{Errno}
 use Rattle.qx_wire.specs.Rests.{is_component}
 use Rattle.qx_wire.proofs.RestLemmas.{next_first, next_last}
 use Rattle.std.specs.Str.{bytes_eq}

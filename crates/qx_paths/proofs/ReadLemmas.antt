@@ -6,8 +6,8 @@ use Rattle.std.proofs.lemmas.Bool.{eqb-true, le-leb, le-ltb, ltb-false, and_part
 use Rattle.std.proofs.lemmas.List.{length-append, take-append-drop}
 use Rattle.std.proofs.lemmas.List.Folds.{list_all-append}
 use Rattle.std.proofs.lemmas.List.Splits.{join_with_byte-slice_split}
-use Rattle.qx_errno.specs.declared.Errno.{Errno}
-use Rattle.qx_errno.specs.declared.Errno.TheVariants.{EINVAL, ENAMETOOLONG}
+use Rattle.qx_base.specs.declared.errno.Errno.{Errno}
+use Rattle.qx_base.specs.declared.errno.Errno.TheVariants.{EINVAL, ENAMETOOLONG}
 use Rattle.qx_types.specs.declared.limits.TheConstants.Limits.{PATH}
 use Rattle.qx_wire.specs.Rests.{is_component, is_rest, components_of, joined}
 use Rattle.qx_wire.proofs.RestLemmas.{components_joined, components_some}

@@ -7,7 +7,7 @@ use Rattle.std.proofs.lemmas.List.{append-nil, append_assoc, get_or-replicate, g
 use Rattle.std.proofs.lemmas.List.Elements.{All-append, All-cons, All-head, All-replicate, All-set, All-tail, All-nil}
 use Rattle.std.proofs.lemmas.List.Folds.{sum_by-replicate}
 use Rattle.std.proofs.lemmas.List.Sums.{length-filter, sum_by-le, sum_by-set}
-use Rattle.qx_errno.specs.declared.Errno.TheVariants.{EEXIST, ENOSPC}
+use Rattle.qx_base.specs.declared.errno.Errno.TheVariants.{EEXIST, ENOSPC}
 use Rattle.qx_types.specs.declared.limits.TheConstants.Limits.{MOUNTS}
 use Rattle.qx_types.specs.declared.names.Manager.TheVariants.{Ram}
 use Rattle.qx_paths.specs.Mounts.{boot_mounts, mount_fault, mounts_of, with_mount_of}

@@ -1,8 +1,8 @@
 -- What the bytes of a path are as components.
 use Rattle.std.specs.Prelude.{ℕ, Bool, false, ◌==◌, true, nat_lt, List, [], ◌∷◌, length, Option, None, Some, Result, Ok, Err, if◌then◌else◌, filter}
 use Rattle.std.specs.List.{slice_split}
-use Rattle.qx_errno.specs.declared.Errno.{Errno}
-use Rattle.qx_errno.specs.declared.Errno.TheVariants.{EINVAL, ENAMETOOLONG}
+use Rattle.qx_base.specs.declared.errno.Errno.{Errno}
+use Rattle.qx_base.specs.declared.errno.Errno.TheVariants.{EINVAL, ENAMETOOLONG}
 use Rattle.qx_types.specs.declared.limits.TheConstants.Limits.{COMPONENT, PATH}
 use Rattle.qx_wire.specs.Rests.{is_component}
 

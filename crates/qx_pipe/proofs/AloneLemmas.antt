@@ -3,11 +3,11 @@ use Rattle.std.proofs.Common.{◌≡◌, ℕ, Bool, false, true, List, [], ◌�
 use Rattle.std.specs.Prelude.{◌&&◌, ◌||◌, IfNone, IfSome, nat_eq}
 use Rattle.std.proofs.lemmas.Bool.{cond_both}
 use Rattle.std.proofs.lemmas.Option.{same_Some}
-use Rattle.qx_device.specs.declared.Told.{Told}
-use Rattle.qx_device.specs.declared.Told.TheVariants as told
-use Rattle.qx_device.specs.Verdict.{Left, Verdict, Fails, Gives, Waits, left_by}
+use Rattle.qx_base.specs.declared.device.Told.{Told}
+use Rattle.qx_base.specs.declared.device.Told.TheVariants as told
+use Rattle.qx_base.specs.Verdict.{Left, Verdict, Fails, Gives, Waits, left_by}
 use Rattle.qx_devices.specs.declared.Device.{Device}
-use Rattle.qx_errno.specs.declared.Errno.TheVariants.{EPIPE}
+use Rattle.qx_base.specs.declared.errno.Errno.TheVariants.{EPIPE}
 use Rattle.qx_types.specs.declared.outcome.Answer.{Answer}
 use Rattle.qx_types.specs.declared.outcome.Answer.TheVariants.{Failed, Reply}
 use Rattle.qx_machine.specs.declared.rows.Manner.{Manner}

@@ -7,8 +7,8 @@ use Rattle.std.proofs.lemmas.List.{take-append-drop}
 use Rattle.std.proofs.lemmas.List.Filters.{sum_by-filter_both}
 use Rattle.std.proofs.lemmas.List.Sums.{sum_by-append}
 use Rattle.std.proofs.lemmas.Option.{same_Some}
-use Rattle.qx_errno.specs.declared.Errno.TheVariants.{EAGAIN, EBADF, EINTR, EPIPE}
-use Rattle.qx_device.specs.Verdict.{Verdict, Waits, Gives, Fails}
+use Rattle.qx_base.specs.declared.errno.Errno.TheVariants.{EAGAIN, EBADF, EINTR, EPIPE}
+use Rattle.qx_base.specs.Verdict.{Verdict, Waits, Gives, Fails}
 use Rattle.qx_devices.specs.declared.Device.{Device}
 use Rattle.qx_types.specs.declared.limits.TheConstants.Limits.{PIPE}
 use Rattle.qx_types.specs.declared.outcome.Answer.{Answer}

@@ -1,7 +1,7 @@
 -- What a reader asks of the calls on a pipe, and on a device.
 use Rattle.std.specs.Prelude.{Bool, ◌≡◌, ◌⊎◌, ℕ, ◌+◌, ◌<◌, List, [], ◌∷◌, ◌++◌, None, length, take, drop, map}
 use Rattle.std.specs.List.{count_by}
-use Rattle.qx_device.specs.Verdict.{Verdict, Waits}
+use Rattle.qx_base.specs.Verdict.{Verdict, Waits}
 use Rattle.qx_types.specs.declared.outcome.Answer.{Answer}
 use Rattle.qx_types.specs.declared.outcome.Answer.TheVariants.{Reply, Failed}
 use Rattle.qx_types.specs.declared.limits.TheConstants.Limits.{PIPE}

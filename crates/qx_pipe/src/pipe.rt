@@ -17,9 +17,9 @@ ghost use Rattle.qx_shared.specs.declared.side.Side.TheVariants.{Writing};
 ghost use Rattle.qx_types.specs.declared.limits.TheConstants.Limits.{PIPE, TRANSFER};
 ghost use Rattle.qx_types.specs.declared.outcome.Answer.TheVariants.{Failed, Reply as TheReply};
 
-use qx_device::Told;
+use qx_base::Told;
 use qx_machine::{Manner, Opened, Sides};
-use qx_process::{Reply, Room};
+use qx_rows::{Reply, Room};
 use qx_queues::{Leaving, PipeCall};
 use qx_shared::{Shared, Side};
 use qx_types::{Device, Errno, Limits, User};

@@ -38,7 +38,7 @@ use Rattle.qx_machine.specs.Waiting.{is_gone, is_over, no_pipes, offered, sides_
 use Rattle.qx_pipes.specs.Pipes.{Follows, done_of, kind_with, seen}
 use Rattle.qx_shared.proofs.AfterLemmas.{pipe_at-after, row-put, then-after}
 use Rattle.qx_shared.specs.Shared.{HasPipe, Shared, pipe_at, pipes_of, went_in, with_pipe_after, with_pipes, with_row_at}
-use Rattle.qx_errno.specs.declared.Errno.{Errno}
+use Rattle.qx_base.specs.declared.errno.Errno.{Errno}
 use Rattle.qx_types.specs.declared.flags.OFlags.{OFlags}
 
 -- ---- one pipe among those of all

@@ -19,7 +19,7 @@ use Rattle.qx_pipes.specs.Pipes.{Follows, seen}
 use Rattle.qx_pipes.specs.Told.{bytes_told, status_told}
 use Rattle.qx_pipes.proofs.PipesLemmas.{after-follows, follows, resized, there}
 use Rattle.qx_shared.specs.Shared.{HasPipe, Shared, pipe_at, pipes_of, went_in, with_pipe_after}
-use Rattle.qx_errno.specs.declared.Errno.{Errno}
+use Rattle.qx_base.specs.declared.errno.Errno.{Errno}
 use Rattle.qx_types.specs.declared.outcome.Answer.{Answer}
 use Rattle.qx_types.specs.declared.outcome.Answer.TheVariants.{Reply}
 

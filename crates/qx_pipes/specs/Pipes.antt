@@ -1,6 +1,6 @@
 -- What the steps of a message to the pipe manager, or to a device's, leave of a store and of what all users share.
 use Rattle.std.specs.Prelude.{ℕ, ◌≡◌, [], Option, Some, None, Result, Ok, Err}
-use Rattle.qx_errno.specs.declared.Errno.{Errno}
+use Rattle.qx_base.specs.declared.errno.Errno.{Errno}
 use Rattle.qx_devices.specs.declared.Device.{Device}
 use Rattle.qx_types.specs.declared.names.Coid.{Coid}
 use Rattle.qx_iofunc.specs.Store.{Stored, with_stored}

@@ -1,6 +1,6 @@
 -- What a READ or a WRITE is told at once: the status and the bytes of the reply to its message.
 use Rattle.std.specs.Prelude.{ℕ, List, [], Option, Some, None, option_map, Result, Ok, Err}
-use Rattle.qx_errno.specs.declared.Errno.{Errno}
+use Rattle.qx_base.specs.declared.errno.Errno.{Errno}
 use Rattle.qx_machine.specs.Functions as functions
 use Rattle.qx_machine.specs.Functions.{Deed}
 use Rattle.qx_machine.specs.Resources.{Resources}

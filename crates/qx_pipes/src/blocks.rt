@@ -22,7 +22,7 @@ use bitflags::Flags;
 use qx_attr::Inodes;
 use qx_iofunc::Store;
 use qx_machine::{Kind, Manner, Ocb, Opened};
-use qx_process::{Reply, Room};
+use qx_rows::{Reply, Room};
 use qx_queues::PipeCall;
 use qx_shared::Shared;
 use qx_types::{Device, Errno, Limits, OFlags, Thread, User};

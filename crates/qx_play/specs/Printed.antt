@@ -1,7 +1,7 @@
 -- What is printed of outcomes, of what a user was shown, and of a trace.
 use Rattle.std.specs.Prelude.{ℕ, ◌+◌, List, [], ◌∷◌, ◌++◌, codes, decimal}
 use Rattle.qx_types.specs.Configuration.{Configuration}
-use Rattle.qx_errno.specs.Names.{errno_name}
+use Rattle.qx_base.specs.ErrorNames.{errno_name}
 use Rattle.qx_types.specs.declared.names.Actor.{Actor}
 use Rattle.qx_types.specs.declared.names.Actor.TheVariants.{OfUser, OfProc, OfThread}
 use Rattle.qx_types.specs.declared.names.Item.{Item}

@@ -12,7 +12,7 @@ use Rattle.qx_machine.specs.Machine.{World, step}
 use Rattle.qx_chan.specs.Channel.{is_no_pulse}
 use Rattle.qx_pool.specs.Ends.{CallAdds, PulseAdds}
 use Rattle.qx_world.specs.Outcomes.{may_be_pulse, may_be_taken, may_end_call}
-use Rattle.qx_ends.specs.Ends.{call_end, pulse_end}
+use Rattle.qx_pool.specs.Outcomes.{call_end, pulse_end}
 use Rattle.qx_world.proofs.OutcomeLemmas.{step_gives}
 
 module _ {Seat : Type 0} (adds : Seat → Seat → Step → Outcome → Type 0) (keeps : Seat → Seat → Type 0) where

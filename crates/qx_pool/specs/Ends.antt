@@ -8,10 +8,10 @@ use Rattle.qx_types.specs.declared.request.Request.{Request}
 use Rattle.qx_types.specs.declared.step.Step.{Step}
 use Rattle.qx_types.specs.declared.step.Step.TheVariants.{Call, TakePulse, TakeReply}
 use Rattle.qx_world.specs.Trace.{Trace}
-use Rattle.qx_ends.specs.declared.CallEnd.{CallEnd}
-use Rattle.qx_ends.specs.declared.CallEnd.TheVariants.{Reply, Failed, Refused, WrongState, Stopped, NoMemory}
-use Rattle.qx_ends.specs.declared.PulseEnd.{PulseEnd}
-use Rattle.qx_ends.specs.declared.PulseEnd.TheVariants as pulse
+use Rattle.qx_pool.specs.declared.ends.CallEnd.{CallEnd}
+use Rattle.qx_pool.specs.declared.ends.CallEnd.TheVariants.{Reply, Failed, Refused, WrongState, Stopped, NoMemory}
+use Rattle.qx_pool.specs.declared.ends.PulseEnd.{PulseEnd}
+use Rattle.qx_pool.specs.declared.ends.PulseEnd.TheVariants as pulse
 use Rattle.qx_pool.specs.declared.ending.FinishFault.{FinishFault}
 use Rattle.qx_pool.specs.declared.ending.FinishFault.TheVariants.{Missing, Disagrees}
 use Rattle.qx_world.specs.Seats.{AddsTwo}

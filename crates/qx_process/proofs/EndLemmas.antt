@@ -19,7 +19,7 @@ use Rattle.qx_isolation.specs.Rows.{row_at}
 use Rattle.qx_machine.specs.Servers.{Servers, in_use, is_attached, leaving, lost_by, servers_from}
 use Rattle.qx_process.specs.Reads.{LosesAll, is_at, is_served, named}
 use Rattle.qx_types.proofs.Managers.{at_one, by_managers, number_at, number_below, same_manager}
-use Rattle.qx_process.proofs.RowLemmas.{row_at-get_or}
+use Rattle.qx_rows.proofs.RowLemmas.{row_at-get_or}
 use Rattle.qx_process.proofs.ServerLemmas.{differs_by, line_at-get_or, line_at-here, none-left, servers_from_again}
 
 -- those at one manager, all left

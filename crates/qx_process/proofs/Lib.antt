@@ -1,5 +1,5 @@
--- tables of rows: reads and changes of one place
-pub mod RowLemmas
+-- a thread's row, as it is changed or left
+pub mod ThreadLemmas
 -- server connections stand and fall with what is attached: the invariant of a process
 pub mod ServerLemmas
 -- what a process uses and loses as something is attached, or goes

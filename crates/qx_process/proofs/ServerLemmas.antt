@@ -15,7 +15,7 @@ use Rattle.qx_machine.specs.declared.rows.ServerConnection.{ServerConnection}
 use Rattle.qx_isolation.specs.Lines.{line_at, with_line}
 use Rattle.qx_isolation.specs.Rows.{lowest_from, put_row, row_at, with_row}
 use Rattle.qx_machine.specs.Servers.{Servers, connects, in_use, is_attached, is_in_use, is_left, leaving, new_server, servers_from, servers_while, sides_with, without_left}
-use Rattle.qx_process.proofs.RowLemmas.{row_at-get_or}
+use Rattle.qx_rows.proofs.RowLemmas.{row_at-get_or}
 
 -- ---- the one in use
 

@@ -1,7 +1,7 @@
 ghost use Rattle.std.specs.Prelude.{IsSome, ◌≡◌, ◌+◌, ◌≤◌, count_by, is_some, length, IfOk, IfSome, IsOk, IsTrue, OnSome, OnOk, OnErr, Some, None, true, vec_capacity};
 ghost use Rattle.std.specs.Option.{option_copied, option_copied_mut};
 ghost use Rattle.std.specs.Borrow.{sem};
-ghost use Rattle.qx_bytes.specs.Memory.{Leave};
+ghost use Rattle.qx_base.specs.Memory.{Leave};
 ghost use Rattle.qx_types.specs.declared.limits.TheConstants.Limits.{FIRST_CONNECTION, LAST_CONNECTION, SERVERS, THREADS};
 ghost use Rattle.qx_types.specs.declared.outcome.Answer.TheVariants.{Reply as TheReply};
 ghost use Rattle.qx_machine.specs.Performing.{client_at};
@@ -11,9 +11,7 @@ ghost use Rattle.qx_isolation.specs.Rows.{row_at, lowest_from};
 ghost use Rattle.qx_process.specs.Reads.{AwaitsReply, BringsRoom, CanAttach, CanCall, CanGo, HasNumber, HasPlace, IsPriority, Loses, LosesAll, Uses, UsesBy, bytes_received, has_own_room, is_served};
 
 use crate::connections::{self, Connections};
-use crate::places;
-use crate::reply::Reply;
-use crate::room::Room;
+use qx_rows::{places, Reply, Room};
 use crate::servers::{self, AllServers, LostServers, Sides};
 use crate::thread::{Replied, ThreadCell};
 use crate::threads::{self, Held, PLACES, Threads};
@@ -253,7 +251,7 @@ impl Process {
 
     /// A message of a thread goes out: the thread is blocked, with room for the reply, and what the message goes over is
     /// attached (C Library Reference: `MsgSend`).
-    #[tactic(auto, using(crate::proofs::RowLemmas::thread_put_back))]
+    #[tactic(auto, using(crate::proofs::ThreadLemmas::thread_put_back))]
     pub fn send(&mut self, alloc: Global, thread: u8, sent: Sent) -> Result<(), AllocError>
         requires call { CanCall (row_at self.old.threads thread) }
         requires target { CanGo sent.target }
@@ -329,7 +327,7 @@ impl Process {
     }
 
     /// A thread gets an answer, with the room for its replies where that comes back with it.
-    #[tactic(auto, using(crate::proofs::RowLemmas::thread_absent))]
+    #[tactic(auto, using(crate::proofs::ThreadLemmas::thread_absent))]
     pub fn answer(&mut self, thread: u8, answer: Answer, room: Option<Room>)
         requires room { BringsRoom answer room (row_at self.old.threads thread) }
         ensures process { self.new ≡ with_thread thread (answered_thread answer) self.old }
@@ -341,7 +339,7 @@ impl Process {
 
     /// A thread whose message was received gets a reply, and the message does what it does to what it came over, and leaves its
     /// memory for others (C Library Reference: `MsgReply`). Gives the server connection that the process has lost with that.
-    #[tactic(auto, using(crate::proofs::RowLemmas::thread_absent))]
+    #[tactic(auto, using(crate::proofs::ThreadLemmas::thread_absent))]
     pub fn reply(
         &mut self,
         thread: u8,
@@ -362,7 +360,7 @@ impl Process {
 
     /// A thread whose message was received gets an error; what its call attached goes, and the message leaves its memory for
     /// others (C Library Reference: `MsgError`). Gives the server connection that the process has lost with that.
-    #[tactic(auto, using(crate::proofs::RowLemmas::thread_absent))]
+    #[tactic(auto, using(crate::proofs::ThreadLemmas::thread_absent))]
     #[inline(always)]
     pub fn reply_error(
         &mut self,

@@ -11,7 +11,8 @@ ghost use Rattle.qx_isolation.specs.Rows.{lowest_from, put_row, row_at};
 ghost use Rattle.qx_machine.specs.Servers as machine;
 ghost use Rattle.qx_process.specs.Reads.{HasPlace, named};
 
-use crate::{places, threads};
+use crate::threads;
+use qx_rows::places;
 use arrayvec::ArrayVec;
 use qx_machine::{Connection, ServerConnection, ServerName};
 use qx_types::{Limits, Manager};

@@ -1,6 +1,6 @@
 ghost use Rattle.std.specs.Prelude.{◌≡◌, ◌<◌, IfSome, IsOk, IsSome, IsTrue, MatchOption, OnOk, OnErr, Some, vec_capacity};
 ghost use Rattle.std.specs.Option.{option_copied};
-ghost use Rattle.qx_bytes.specs.Memory.{Leave};
+ghost use Rattle.qx_base.specs.Memory.{Leave};
 ghost use Rattle.qx_types.specs.declared.limits.TheConstants.Limits.{CALLS};
 ghost use Rattle.qx_types.specs.declared.outcome.Answer.TheVariants.{Failed, Reply as TheReply};
 ghost use Rattle.qx_machine.specs.Calls.{is_ready};
@@ -10,8 +10,7 @@ ghost use Rattle.qx_machine.specs.Processes.{asked_thread, new_thread, queued_th
 ghost use Rattle.qx_process.specs.Reads.{BringsRoom, IsPriority, has_own_room, is_blocked, queued_in, unanswered_in};
 ghost use Rattle.qx_process.specs.inner.States.{state_of};
 
-use crate::reply::Reply;
-use crate::room::Room;
+use qx_rows::{Reply, Room};
 use qx_hint::assert_unchecked;
 use qx_machine::{Effect, Sent};
 use qx_types::{Answer, Errno, Manager, MessageBytes, Prio};

@@ -2,7 +2,7 @@
 use Rattle.std.specs.Borrow.{Bor}
 use Rattle.std.specs.Prelude.{ℕ, ◌==◌, ◌&&◌, Bool, true, List, Result, Ok, Err}
 use Rattle.qx_types.specs.declared.names.Thread.{Thread}
-use Rattle.qx_errno.specs.declared.Errno.{Errno}
+use Rattle.qx_base.specs.declared.errno.Errno.{Errno}
 use Rattle.qx_types.specs.declared.outcome.Answer.{Answer}
 use Rattle.qx_types.specs.declared.outcome.Answer.TheVariants.{Failed, Reply}
 use Rattle.qx_machine.specs.declared.rows.WaitingCall.{WaitingCall}

@@ -7,7 +7,7 @@ ghost use Rattle.qx_queues.specs.Queues.{caller};
 ghost use Rattle.qx_types.specs.declared.limits.TheConstants.Limits.{TRANSFER};
 
 use qx_machine::Opened;
-use qx_process::Room;
+use qx_rows::Room;
 use qx_types::{Limits, Proc, Thread, User};
 use std::marker::Model;
 

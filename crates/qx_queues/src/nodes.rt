@@ -6,7 +6,7 @@ ghost use Rattle.qx_types.specs.declared.limits.TheConstants.Limits.{PROCESSES, 
 ghost use Rattle.qx_isolation.specs.Rows.{row_at};
 ghost use Rattle.qx_queues.specs.Nodes.{Asked, disconnect_at, no_nodes, no_process, nodes_of_thread, process_at, process_nodes_in, servers_with, threads_with, user_with, with_disconnect_at, with_nodes_at};
 
-use qx_process::places;
+use qx_rows::places;
 use qx_types::{Limits, Manager, Proc, Thread};
 use std::alloc::{AllocError, Global};
 use std::marker::Model;

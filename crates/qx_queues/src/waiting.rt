@@ -13,7 +13,7 @@ ghost use Rattle.qx_queues.specs.Waits.{handed, users_call};
 
 use crate::calls::PipeCall;
 use qx_machine::Queued;
-use qx_process::room::{Room, reply_bytes};
+use qx_rows::room::{Room, reply_bytes};
 use qx_types::{Answer, Errno, MessageBytes, Prio, Ranked, Thread, User};
 use std::marker::Model;
 use std::mem;

@@ -27,7 +27,7 @@ use crate::nodes::{Nodes, ThreadNodes};
 use crate::queues::{Queues, take_slot};
 use crate::waiting::{Answered, Slot, Waiting};
 use qx_lists::Table;
-use qx_process::Room;
+use qx_rows::Room;
 use qx_types::{Errno, Proc, Thread, User};
 use std::alloc::AllocError;
 

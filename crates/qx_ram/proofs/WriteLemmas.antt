@@ -1,8 +1,8 @@
 -- What a write comes to, once it is known what it goes to.
 use Rattle.std.proofs.Common.{◌≡◌, ℕ, ◌+◌, ◌-◌, ◌==◌, ◌≤◌, Bool, true, false, List, [], length, max, arith, Option, Some, None, Result, Ok, Err, slice_set, subst}
 use Rattle.std.specs.Prelude.{IsOkAnd, IsSomeAnd, IsTrue}
-use Rattle.qx_errno.specs.declared.Errno.{Errno}
-use Rattle.qx_errno.specs.declared.Errno.TheVariants.{EBADF}
+use Rattle.qx_base.specs.declared.errno.Errno.{Errno}
+use Rattle.qx_base.specs.declared.errno.Errno.TheVariants.{EBADF}
 use Rattle.qx_types.specs.declared.flags.TheConstants.OFlags.{WRITE}
 use Rattle.qx_types.specs.declared.limits.TheConstants.Limits.{FILES}
 use Rattle.qx_types.specs.UserLimits.{UserLimits}

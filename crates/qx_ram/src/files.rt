@@ -15,7 +15,7 @@ use bitflags::Flags;
 use qx_files::{Data, Files};
 use qx_iofunc::Store;
 use qx_machine::{Ocb, Opened};
-use qx_process::Reply;
+use qx_rows::Reply;
 use qx_types::{Errno, LimitName, Limits, OFlags, UserLimits, Whence};
 use std::alloc::AllocError;
 

@@ -1,7 +1,7 @@
 ghost use Rattle.std.specs.Prelude.{◌≡◌, ◌≤◌, ℕ, Bool, List, Result, false, true, [], Err, IfOk, IsOk, IsSome, IsTrue, OnErr, length};
 ghost use Rattle.qx_types.specs.declared.limits.TheConstants.Limits.{TRANSFER};
-ghost use Rattle.qx_errno.specs.declared.Errno.{Errno};
-ghost use Rattle.qx_errno.specs.declared.Errno.TheVariants.{ENOSYS};
+ghost use Rattle.qx_base.specs.declared.errno.Errno.{Errno};
+ghost use Rattle.qx_base.specs.declared.errno.Errno.TheVariants.{ENOSYS};
 ghost use Rattle.qx_wire.specs.Rests.{is_rest};
 ghost use Rattle.qx_machine.specs.declared.rows.Effect.TheVariants.{Keeps};
 ghost use Rattle.qx_machine.specs.declared.rows.Opened.{Opened};
@@ -11,7 +11,7 @@ ghost use Rattle.qx_resmgr.specs.Deeds.{Did, HasRoomAfter, IsReplied};
 
 use crate::state::State;
 use qx_machine::{Effect, NewDup, NewOpen, Opened, PulseWish, Wish};
-use qx_process::{Reply, Room};
+use qx_rows::{Reply, Room};
 use qx_types::{Errno, NotifyAction, Whence};
 use qx_wire::Rest;
 use std::alloc::AllocError;

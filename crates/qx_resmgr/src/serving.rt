@@ -8,7 +8,7 @@ ghost use Rattle.qx_resmgr.specs.Deeds.{Did, HasRoomAfter};
 use crate::functions::{Connect, Done, Io};
 use crate::state::State;
 use qx_machine::{Context, NewDup, NewOpen, Over, PulseWish, Target, Wish};
-use qx_process::{Reply, Room};
+use qx_rows::{Reply, Room};
 use qx_types::Errno;
 use qx_wire::Message;
 use std::alloc::AllocError;

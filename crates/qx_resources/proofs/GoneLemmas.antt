@@ -2,7 +2,7 @@
 use Rattle.std.proofs.Common.{◌≡◌, ◌∙◌, ◌≤◌, ◌==◌, inl, inr, ℕ, Bool, true, false, not, List, [], ◌∷◌, Option, None, Result, Ok, Err, length, slice_set, refl, sym, ap, ap₂, arith, subst}
 use Rattle.std.specs.Prelude.{filter, sum_by}
 use Rattle.std.proofs.lemmas.Bool.{cases_Bool, eq-eqb, false≢true}
-use Rattle.qx_errno.specs.declared.Errno.{Errno}
+use Rattle.qx_base.specs.declared.errno.Errno.{Errno}
 use Rattle.qx_types.specs.declared.names.Manager.{Manager}
 use Rattle.qx_machine.specs.declared.rows.Client.{Client}
 use Rattle.qx_machine.specs.declared.rows.Event.{Event}

@@ -2,7 +2,7 @@
 use Rattle.std.proofs.Common.{◌≡◌, ◌∙◌, ◌+◌, ◌-◌, ℕ, Bool, true, false, List, [], Result, Ok, Err, IfOk, OnErr, MatchResult, refl, sym, ap, subst, arith}
 use Rattle.std.specs.Prelude.{◌||◌, IsTrue, Option, Some, None, option_map}
 use Rattle.std.proofs.lemmas.List.{set-get_or}
-use Rattle.qx_errno.specs.declared.Errno.{Errno}
+use Rattle.qx_base.specs.declared.errno.Errno.{Errno}
 use Rattle.qx_devices.specs.declared.Device.{Device}
 use Rattle.qx_types.specs.declared.names.Manager.TheVariants as managers
 use Rattle.qx_paths.specs.Mounts.{mounts_of}

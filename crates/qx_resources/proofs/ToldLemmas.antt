@@ -1,8 +1,8 @@
 -- A READ or a WRITE of a pipe that is told a status at once is replied that, and its connection stays.
 use Rattle.std.proofs.Common.{◌≡◌, ℕ, List, Option, Some, None, Result, IfOk, refl, sym, ap}
 use Rattle.std.specs.Prelude.{IfSome, option_map}
-use Rattle.qx_errno.specs.declared.Errno.{Errno}
-use Rattle.qx_errno.specs.declared.Errno.TheVariants.{EBADF, EISDIR}
+use Rattle.qx_base.specs.declared.errno.Errno.{Errno}
+use Rattle.qx_base.specs.declared.errno.Errno.TheVariants.{EBADF, EISDIR}
 use Rattle.qx_machine.specs.declared.rows.Effect.TheVariants.{Keeps}
 use Rattle.qx_machine.specs.declared.rows.Opened.{Opened}
 use Rattle.qx_machine.specs.Functions as functions

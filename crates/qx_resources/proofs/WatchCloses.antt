@@ -3,7 +3,7 @@ use Rattle.std.proofs.Common.{◌≡◌, inl, inr, ℕ, ◌≤◌, Bool, not, �
 use Rattle.std.proofs.lemmas.Bool.{false≢true, eq-eqb, cases_Bool, cond_both}
 use Rattle.std.specs.List.{AllByRecursion}
 use Rattle.std.specs.Prelude.{Ok, ◌-◌, filter, if◌then◌else◌}
-use Rattle.qx_errno.specs.declared.Errno.TheVariants.{EBADF}
+use Rattle.qx_base.specs.declared.errno.Errno.TheVariants.{EBADF}
 use Rattle.qx_types.specs.declared.flags.OFlags.{OFlags}
 use Rattle.qx_machine.specs.declared.rows.Effect.TheVariants.{Closes}
 use Rattle.qx_machine.specs.declared.rows.Event.{Event}

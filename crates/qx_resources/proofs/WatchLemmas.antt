@@ -1,7 +1,7 @@
 -- After a message, or an unblock, only the events of the watched pipe's blocks can be due.
 use Rattle.std.proofs.Common.{◌≡◌, refl, ap, ◌∙◌, Bool, true, false, ℕ, List, Option, Some, None, IsSome, Result, Ok, Err, map}
 use Rattle.std.specs.Prelude.{position, if◌then◌else◌}
-use Rattle.qx_errno.specs.declared.Errno.{Errno}
+use Rattle.qx_base.specs.declared.errno.Errno.{Errno}
 use Rattle.qx_types.specs.declared.names.Manager.{Manager}
 use Rattle.qx_types.specs.declared.names.Manager.TheVariants as managers
 use Rattle.qx_wire.specs.declared.message.Meaning.{Meaning}

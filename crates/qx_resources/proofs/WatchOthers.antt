@@ -3,7 +3,7 @@ use Rattle.std.proofs.Common.{◌≡◌, inl, ℕ, true, not, ◌==◌, refl, sy
 use Rattle.std.proofs.lemmas.Bool.{false≢true, eqb-true, cond_both, and_parts}
 use Rattle.std.specs.Prelude.{ℤ, ◌+◌, ◌&&◌, ◌||◌, length, nat_lt}
 use Rattle.std.specs.FinMap.{remove}
-use Rattle.qx_errno.specs.declared.Errno.TheVariants.{EBADF, EINVAL, EMFILE, ENOENT, EBUSY, EISDIR, ENOTDIR, ENOTEMPTY, EPERM, ESPIPE}
+use Rattle.qx_base.specs.declared.errno.Errno.TheVariants.{EBADF, EINVAL, EMFILE, ENOENT, EBUSY, EISDIR, ENOTDIR, ENOTEMPTY, EPERM, ESPIPE}
 use Rattle.qx_types.specs.declared.fields.NotifyAction.{NotifyAction}
 use Rattle.qx_types.specs.declared.fields.Whence.{Whence}
 use Rattle.qx_types.specs.declared.limits.TheConstants.Limits.{LAST_CONNECTION}

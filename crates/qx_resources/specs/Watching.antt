@@ -1,6 +1,6 @@
 -- Which pipe is watched while a user's resources are worked on, and which events are due by what was done to it.
 use Rattle.std.specs.Prelude.{ℕ, ◌≡◌, ◌==◌, ◌&&◌, not, Bool, true, false, Option, Some, None, Result, Ok, if◌then◌else◌, is_some, length, position}
-use Rattle.qx_errno.specs.declared.Errno.{Errno}
+use Rattle.qx_base.specs.declared.errno.Errno.{Errno}
 use Rattle.qx_wire.specs.declared.message.Meaning.{Meaning}
 use Rattle.qx_wire.specs.declared.message.Meaning.TheVariants.{Known}
 use Rattle.qx_wire.specs.declared.message.Message.{Message}

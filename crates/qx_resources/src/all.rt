@@ -7,7 +7,7 @@ ghost use Rattle.qx_isolation.specs.Rows.{row_at};
 ghost use Rattle.qx_resources.specs.Boot.{boot_resources};
 
 use crate::resources::Resources;
-use qx_process::places;
+use qx_rows::places;
 use qx_types::{Config, NoMemory, User};
 use std::alloc::Global;
 use std::marker::Model;

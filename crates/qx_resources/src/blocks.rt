@@ -17,7 +17,7 @@ use crate::resources::Resources;
 use crate::tables::Tables;
 use qx_attr::Status;
 use qx_machine::{Effect, Event, NewDup, Opened, PulseWish};
-use qx_process::Reply;
+use qx_rows::Reply;
 use qx_resmgr::Done;
 use qx_types::{Coid, Errno, LimitName, NotifyAction};
 use qx_wire::Rest;

@@ -13,7 +13,7 @@ use crate::resources::Resources;
 use crate::tables::Tables;
 use qx_machine::Conditions;
 use qx_notify::{Change, Changes};
-use qx_procs::Processes;
+use qx_clients::Processes;
 use qx_types::Limits;
 
 /// Both conditions hold of a file and of a directory, always.

@@ -9,7 +9,7 @@ use crate::state::Told;
 use crate::tables::Tables;
 use crate::{blocks, closing};
 use qx_machine::{NewDup, NewOpen, Opened, PulseWish, Wish};
-use qx_process::{Reply, Room};
+use qx_rows::{Reply, Room};
 use qx_resmgr::{Connect, Done, Io, no_function};
 use qx_types::{Device, Errno, Manager, NotifyAction, Whence};
 use qx_wire::Rest;

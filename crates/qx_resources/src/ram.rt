@@ -7,7 +7,7 @@ use crate::state::Told;
 use crate::tables::Tables;
 use crate::{blocks, closing};
 use qx_machine::{Kind, NewDup, NewOpen, Opened, PulseWish, Wish};
-use qx_process::{Reply, Room};
+use qx_rows::{Reply, Room};
 use qx_resmgr::{Connect, Done, Io};
 use qx_types::{Errno, Manager, NotifyAction, Whence};
 use qx_wire::Rest;

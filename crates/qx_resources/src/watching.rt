@@ -14,7 +14,7 @@ use crate::tables::Tables;
 use qx_attr::Inodes;
 use qx_machine::{Conditions, Opened};
 use qx_notify::{Change, Changes};
-use qx_procs::Processes;
+use qx_clients::Processes;
 use qx_types::{Errno, Thread};
 use qx_wire::{Meaning, Message};
 

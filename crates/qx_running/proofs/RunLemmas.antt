@@ -10,7 +10,7 @@ use Rattle.qx_machine.specs.Machine as machine
 use Rattle.qx_machine.specs.Machine.{World, step}
 use Rattle.qx_machine.specs.Runs.{world_after}
 use Rattle.qx_machine.proofs.Runs.{step-config, world_after-append}
-use Rattle.qx_cut.specs.Cut.{bytes_of_outcome, bytes_of_step, cut_outcome, cut_step}
+use Rattle.qx_types.specs.Cut.{bytes_of_outcome, bytes_of_step, cut_outcome, cut_step}
 use Rattle.qx_world.specs.Steps.{IsReached}
 use Rattle.qx_running.specs.Running.{Now, CameBy, IsOfRun, next, recorded, recorded_from, turn_after, world_by}
 use Rattle.qx_running.specs.declared.running.Recorded.{Recorded}

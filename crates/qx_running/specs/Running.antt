@@ -8,7 +8,7 @@ use Rattle.qx_types.specs.declared.step.Step.{Step}
 use Rattle.qx_types.specs.declared.step.Step.TheVariants.{Receive}
 use Rattle.qx_machine.specs.Machine.{World, line_of, owner, step}
 use Rattle.qx_machine.specs.Runs.{run, world_after}
-use Rattle.qx_cut.specs.Cut.{bytes_of_outcome, bytes_of_step, cut_outcome, cut_step}
+use Rattle.qx_types.specs.Cut.{bytes_of_outcome, bytes_of_step, cut_outcome, cut_step}
 use Rattle.qx_running.specs.declared.running.Recorded.{Recorded}
 
 -- the world; the last steps, of at most so many; how many were taken since the run began, at most the greatest number of 64 bits;

@@ -4,11 +4,11 @@
 //! - `under_lock.rt`: a run under a server's lock
 //!
 //! `Running.antt` says what a step makes of a run, which manager is next and which steps are read, `Told.antt` what a server tells
-//! over a run. Of bytes the first ones are kept (`qx_cut`).
+//! over a run. Of bytes the first ones are kept (`cut.rt` of `qx_types`).
 #![tactic(auto)]
 
 pub mod running;
 pub mod under_lock;
 
-pub use qx_cut::KEPT;
+pub use qx_types::KEPT;
 pub use running::{PIECE, Piece, Recorded, Running};

@@ -8,14 +8,13 @@ ghost use Rattle.qx_machine.specs.Machine as machine;
 ghost use Rattle.qx_machine.specs.Reads as reads;
 ghost use Rattle.qx_machine.specs.Wants.{wants_memory};
 ghost use Rattle.qx_world.specs.Steps.{held_work, IsStale, PerformFault};
-ghost use Rattle.qx_cut.specs.Cut.{bytes_of_outcome, bytes_of_step, cut_outcome, cut_step};
+ghost use Rattle.qx_types.specs.Cut.{bytes_of_outcome, bytes_of_step, cut_outcome, cut_step};
 ghost use Rattle.qx_running.specs.Running.{begun, greatest_urgency, is_as_urgent, next, next_manager, oldest, turn_after, CameBy, IsOfRun};
 ghost use Rattle.qx_running.specs.inner.Running.{urgency_among};
 
 use circular_buffer::HeapCircularBuffer;
-use qx_cut::{bytes_of_outcome, bytes_of_step, cut_outcome, cut_step};
+use qx_types::{cut::{bytes_of_outcome, bytes_of_step, cut_outcome, cut_step}, Manager, Outcome, Step, User, Worker};
 use qx_machine::Entry;
-use qx_types::{Manager, Outcome, Step, User, Worker};
 use qx_world::{PerformFault, Unstored, Work, World};
 use std::alloc::{AllocError, Global};
 use std::marker::Model;

@@ -8,7 +8,7 @@ use Rattle.qx_machine.specs.declared.rows.WaitingCall.{WaitingCall}
 use Rattle.qx_machine.specs.Waiting.{Pipes, no_pipes}
 use Rattle.qx_machine.specs.Pipes.{PipeAfter, Pipe, and_then, pipe_of}
 use Rattle.qx_isolation.specs.Rows.{row_at}
-use Rattle.qx_process.proofs.RowLemmas.{row_at-get_or}
+use Rattle.qx_rows.proofs.RowLemmas.{row_at-get_or}
 use Rattle.qx_queues.proofs.TableLemmas.{absent_is}
 use Rattle.qx_shared.specs.Shared.{HasPipe, Shared, pipe_at, users_given, with_pipe_after}
 use Rattle.qx_shared.proofs.OwnLemmas.{row_at-none}

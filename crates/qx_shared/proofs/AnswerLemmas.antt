@@ -2,9 +2,9 @@
 use Rattle.std.proofs.Common.{◌≡◌, ℕ, List, [], ◌∷◌, Option, Some, None, IsSome, map, get_or, option_map, slice_set, refl, sym, ◌∙◌, ap}
 use Rattle.std.specs.Prelude.{IfSome, drop, take, slice_get}
 use Rattle.std.proofs.lemmas.Option.{same_Some}
-use Rattle.qx_errno.specs.declared.Errno.{Errno}
-use Rattle.qx_device.specs.Verdict.{Left, Verdict, Waits, Gives, Fails, left_by}
-use Rattle.qx_device.specs.declared.Told.TheVariants as told
+use Rattle.qx_base.specs.declared.errno.Errno.{Errno}
+use Rattle.qx_base.specs.Verdict.{Left, Verdict, Waits, Gives, Fails, left_by}
+use Rattle.qx_base.specs.declared.device.Told.TheVariants as told
 use Rattle.qx_devices.specs.declared.Device.{Device}
 use Rattle.qx_types.specs.declared.outcome.Answer.{Answer}
 use Rattle.qx_types.specs.declared.outcome.Answer.TheVariants.{Reply, Failed}

@@ -11,7 +11,7 @@ use Rattle.qx_machine.specs.Waiting.{Pipes, no_pipes}
 use Rattle.qx_machine.specs.Pipes.{Pipe, pipe_of}
 use Rattle.qx_isolation.specs.Rows.{row_at}
 use Rattle.qx_isolation.proofs.Places.{row_at-set_other, set-row_at}
-use Rattle.qx_process.proofs.RowLemmas.{row_at-get_or}
+use Rattle.qx_rows.proofs.RowLemmas.{row_at-get_or}
 use Rattle.qx_queues.specs.Queues as queues
 use Rattle.qx_queues.specs.Queues.{Queues, no_queues}
 use Rattle.qx_queues.proofs.PresenceLemmas.{same-below}

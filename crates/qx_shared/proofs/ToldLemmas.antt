@@ -3,10 +3,10 @@ use Rattle.std.proofs.Common.{◌≡◌, ◌≤◌, ℕ, true, List, length, tak
 use Rattle.std.specs.Prelude.{nat_le}
 use Rattle.std.proofs.Math.Seq.{take-nil}
 use Rattle.std.proofs.lemmas.Bool.{le-leb}
-use Rattle.qx_device.specs.Verdict.{Left, Verdict, Waits, Gives, Fails, left_by}
-use Rattle.qx_device.specs.declared.Told.{Told}
-use Rattle.qx_device.specs.declared.Told.TheVariants as told
-use Rattle.qx_device.specs.declared.TheConstants.{STATE}
+use Rattle.qx_base.specs.Verdict.{Left, Verdict, Waits, Gives, Fails, left_by}
+use Rattle.qx_base.specs.declared.device.Told.{Told}
+use Rattle.qx_base.specs.declared.device.Told.TheVariants as told
+use Rattle.qx_base.specs.declared.device.TheConstants.{STATE}
 use Rattle.qx_machine.specs.Verdicts.{within}
 
 abbrev left : Told → List ℕ → List ℕ → Left

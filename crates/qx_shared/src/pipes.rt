@@ -5,7 +5,7 @@ ghost use Rattle.std.specs.Prelude.{◌≡◌, ◌<◌, ◌≤◌, ◌+◌, ◌+
 ghost use Rattle.std.specs.List.{flat_map};
 ghost use Rattle.std.specs.Option.{option_copied};
 ghost use Rattle.std.specs.Result.{ForOk};
-ghost use Rattle.qx_device.specs.Verdict.{left_by};
+ghost use Rattle.qx_base.specs.Verdict.{left_by};
 ghost use Rattle.qx_machine.specs.Notification.{conditions_of};
 ghost use Rattle.qx_machine.specs.Verdicts.{read_of, write_of};
 ghost use Rattle.qx_machine.specs.Waiting.{holds, is_call, is_written, offered, wanted};
@@ -20,9 +20,9 @@ ghost use Rattle.qx_types.specs.declared.limits.TheConstants.Limits.{INODES, PIP
 use crate::row::{Blank, PipeRow, UserPipes};
 use crate::shared::Shared;
 use crate::side::Side;
-use qx_device::{Given, Told};
+use qx_base::{Given, Told};
 use qx_machine::{Conditions, Sides};
-use qx_process::Reply;
+use qx_rows::Reply;
 use qx_queues::{Leaving, PipeCall};
 use qx_types::{Device, Errno, Proc, Thread, User};
 use std::alloc::AllocError;

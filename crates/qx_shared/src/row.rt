@@ -5,7 +5,7 @@ ghost use Rattle.std.specs.Borrow.{sem};
 ghost use Rattle.std.specs.Option.{option_copied, option_copied_mut};
 ghost use Rattle.qx_isolation.specs.Rows.{row_at};
 ghost use Rattle.qx_shared.specs.inner.Lends.{lends_row};
-ghost use Rattle.qx_device.specs.Verdict.{left_by};
+ghost use Rattle.qx_base.specs.Verdict.{left_by};
 ghost use Rattle.qx_machine.specs.Verdicts.{may_read, may_write, read_of, write_of};
 ghost use Rattle.qx_shared.specs.Row.{PipeRow};
 ghost use Rattle.qx_shared.specs.inner.Content.{HasRoom, bytes_in, device_in};
@@ -14,9 +14,9 @@ ghost use Rattle.qx_types.specs.declared.limits.TheConstants.Limits.{INODES, PIP
 
 use crate::side::Side;
 use circular_buffer::HeapCircularBuffer;
-use qx_device::{Given, State, Told};
+use qx_base::{Given, State, Told};
 use qx_machine::{Conditions, Sides};
-use qx_process::places;
+use qx_rows::places;
 use qx_types::{Device, Limits};
 use std::alloc::{AllocError, Global};
 use std::marker::Model;

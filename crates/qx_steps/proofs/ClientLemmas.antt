@@ -6,7 +6,7 @@ use Rattle.std.proofs.lemmas.Bool.{cases_Bool}
 use Rattle.std.proofs.lemmas.Result.{IfOk-weaker}
 use Rattle.qx_types.specs.UserLimits.{UserLimits}
 use Rattle.qx_types.specs.Configuration.{Configuration, limits_of}
-use Rattle.qx_errno.specs.declared.Errno.TheVariants.{EINTR}
+use Rattle.qx_base.specs.declared.errno.Errno.TheVariants.{EINTR}
 use Rattle.qx_types.specs.declared.names.Prio.{Prio}
 use Rattle.qx_types.specs.declared.names.Thread.{Thread}
 use Rattle.qx_types.specs.declared.names.User.{User}
@@ -34,9 +34,9 @@ use Rattle.qx_machine.specs.Processes.{Process, asked_thread, new_process, ranke
 use Rattle.qx_isolation.specs.Rows.{row_at, with_row}
 use Rattle.qx_machine.specs.Users.{client, settle_part}
 use Rattle.qx_machine.proofs.Living.{message-keeps}
-use Rattle.qx_process.proofs.RowLemmas.{set-row, with_row-none}
+use Rattle.qx_rows.proofs.RowLemmas.{set-row, with_row-none}
 use Rattle.qx_resources.specs.State.{told, Kept}
-use Rattle.qx_procs.specs.Calls.{after_or, spawn_outcome, spawned, with_prio}
+use Rattle.qx_clients.specs.Calls.{after_or, spawn_outcome, spawned, with_prio}
 use Rattle.qx_chan.specs.Calls.{queued_call}
 use Rattle.qx_process.specs.Reads.{queued_in}
 use Rattle.qx_chan.specs.Channel.{Channel, after_asking, after_interrupt, after_ranking, after_send, after_spawn, after_taking, after_withdrawing, failed, interrupt_outcome, lists}

@@ -24,7 +24,7 @@ use Rattle.qx_machine.specs.Users.{client, settle_part}
 use Rattle.qx_machine.specs.Waiting.{no_pipes}
 use Rattle.qx_machine.proofs.NotifyLemmas.{settled-ended}
 use Rattle.qx_isolation.proofs.Places.{set-row_at}
-use Rattle.qx_process.proofs.RowLemmas.{set-row, with_row-none}
+use Rattle.qx_rows.proofs.RowLemmas.{set-row, with_row-none}
 use Rattle.qx_resources.specs.State.{told, Kept}
 use Rattle.qx_chan.specs.Channel.{Channel, after_exit, channel_events, channel_pipes, ended_in, exit_outcome, lists}
 use Rattle.qx_chan.specs.Users.{process_of, process_of_user}

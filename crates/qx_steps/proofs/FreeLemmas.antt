@@ -11,9 +11,9 @@ use Rattle.qx_machine.specs.Processes.{Process, has_ended, has_server}
 use Rattle.qx_isolation.specs.Rows.{row_at, with_row}
 use Rattle.qx_machine.specs.Settling.{has_waiting, is_held, processes_left, row_left}
 use Rattle.qx_isolation.proofs.Places.{set-row_at}
-use Rattle.qx_process.proofs.RowLemmas.{set-row, with_row-none}
+use Rattle.qx_rows.proofs.RowLemmas.{set-row, with_row-none}
 use Rattle.qx_chan.specs.Channel.{Channel, after_freeing, channel_pipes}
-use Rattle.qx_procs.specs.Calls.{has_ended_in}
+use Rattle.qx_clients.specs.Calls.{has_ended_in}
 use Rattle.qx_chan.specs.Users.{process_of}
 use Rattle.qx_chan.proofs.RowReads.{option_cases}
 use Rattle.qx_steps.specs.inner.Performing.{holds_of, with_left, with_one_left}

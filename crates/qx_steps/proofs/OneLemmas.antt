@@ -6,7 +6,7 @@ use Rattle.std.proofs.lemmas.Bool.{cases_Bool, cases_eq, false≢true}
 use Rattle.std.proofs.lemmas.Bool.Decides.{nat_tests}
 use Rattle.std.proofs.lemmas.Option.{same_Some}
 use Rattle.qx_types.specs.Configuration.{Configuration}
-use Rattle.qx_errno.specs.declared.Errno.{Errno}
+use Rattle.qx_base.specs.declared.errno.Errno.{Errno}
 use Rattle.qx_types.specs.declared.outcome.Answer.{Answer}
 use Rattle.qx_types.specs.declared.outcome.Outcome.{Outcome}
 use Rattle.qx_isolation.specs.declared.rows.Held.{Held}
@@ -32,7 +32,7 @@ use Rattle.qx_machine.specs.Waiting.{Pipes}
 use Rattle.qx_machine.proofs.Living.{keeps-thread, lives-answered}
 use Rattle.qx_isolation.proofs.Places.{row_at-set_other}
 use Rattle.qx_process.proofs.ServerLemmas.{differs_by}
-use Rattle.qx_procs.specs.Calls.{has_ended_in}
+use Rattle.qx_clients.specs.Calls.{has_ended_in}
 
 -- ---- what is told of a process
 

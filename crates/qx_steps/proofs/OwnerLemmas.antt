@@ -12,7 +12,7 @@ use Rattle.qx_machine.specs.Resources.{Resources}
 use Rattle.qx_isolation.specs.Rows.{row_at}
 use Rattle.qx_machine.proofs.Runs.{world_after-append}
 use Rattle.qx_machine.proofs.Settled.{run_settled, settled-left}
-use Rattle.qx_process.proofs.RowLemmas.{set-row}
+use Rattle.qx_rows.proofs.RowLemmas.{set-row}
 use Rattle.qx_resources.specs.State.{told, Kept}
 use Rattle.qx_chan.specs.Channel.{Channel, lists}
 use Rattle.qx_chan.proofs.RowReads.{option_cases}

@@ -26,7 +26,7 @@ use Rattle.qx_machine.specs.Waiting.{no_pipes}
 use Rattle.qx_resources.specs.State.{told, Kept}
 use Rattle.qx_chan.specs.Channel.{Channel, channel_pipes, lists}
 use Rattle.qx_chan.specs.Serving.{part_in, settled, PartServed, Serves}
-use Rattle.qx_procs.specs.Calls.{has_ended_in}
+use Rattle.qx_clients.specs.Calls.{has_ended_in}
 use Rattle.qx_chan.specs.Users.{Users, process_of, process_of_user}
 use Rattle.qx_steps.specs.inner.Held.{IsThere, IsThereBy}
 use Rattle.qx_chan.proofs.RowReads.{option_cases, row_at-set_same, row_within}

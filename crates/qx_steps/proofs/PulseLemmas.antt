@@ -18,7 +18,7 @@ use Rattle.qx_machine.specs.Processes.{Process, living}
 use Rattle.qx_machine.specs.Resources.{Resources}
 use Rattle.qx_isolation.specs.Rows.{row_at}
 use Rattle.qx_machine.specs.Users.{client}
-use Rattle.qx_process.proofs.RowLemmas.{set-row}
+use Rattle.qx_rows.proofs.RowLemmas.{set-row}
 use Rattle.qx_resources.specs.State.{told, Kept}
 use Rattle.qx_chan.specs.Channel.{Channel, after_pulse, channel_events, lists, pulse_outcome, with_pulse_taken}
 use Rattle.qx_chan.specs.Users.{process_of, process_of_user}

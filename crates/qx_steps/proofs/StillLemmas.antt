@@ -4,7 +4,7 @@ use Rattle.std.specs.Prelude.{is_some, map, option_map, slice_get}
 use Rattle.std.proofs.lemmas.Bool.{cases_Bool}
 use Rattle.qx_types.specs.UserLimits.{UserLimits}
 use Rattle.qx_types.specs.Configuration.{Configuration}
-use Rattle.qx_errno.specs.declared.Errno.TheVariants.{EINTR}
+use Rattle.qx_base.specs.declared.errno.Errno.TheVariants.{EINTR}
 use Rattle.qx_types.specs.declared.names.Manager.{Manager}
 use Rattle.qx_types.specs.declared.names.Proc.{Proc}
 use Rattle.qx_types.specs.declared.names.Thread.{Thread}
@@ -20,7 +20,7 @@ use Rattle.qx_machine.specs.Events.{first_pulse}
 use Rattle.qx_machine.specs.Processes.{Process, asked_thread, ended, living, ready_thread, taken_thread, with_queued, with_thread}
 use Rattle.qx_isolation.specs.Rows.{with_row}
 use Rattle.qx_machine.specs.Settling.{processes_left}
-use Rattle.qx_procs.specs.Calls.{after_or, spawned, with_prio}
+use Rattle.qx_clients.specs.Calls.{after_or, spawned, with_prio}
 use Rattle.qx_resources.specs.State.{told, Kept}
 use Rattle.qx_machine.specs.Reads.{answer_of}
 use Rattle.qx_chan.specs.Calls.{queued_call, unasked_call}

@@ -24,7 +24,7 @@ use Rattle.qx_isolation.specs.Rows.{row_at, with_row}
 use Rattle.qx_machine.specs.Users.{settle_part, take}
 use Rattle.qx_machine.specs.Wants.{item_wants_memory, wants_memory}
 use Rattle.qx_isolation.proofs.Workers.{after_item, after_taking, item_taken}
-use Rattle.qx_process.proofs.RowLemmas.{set-row, with_row-none}
+use Rattle.qx_rows.proofs.RowLemmas.{set-row, with_row-none}
 use Rattle.qx_chan.specs.Calls.{taken_of}
 use Rattle.qx_resources.specs.State.{told, Kept}
 use Rattle.qx_chan.specs.Channel.{Channel, after_receive, channel_line, lists}

@@ -8,7 +8,7 @@ ghost use Rattle.qx_machine.specs.Machine.{own_held};
 ghost use Rattle.qx_isolation.specs.Rows.{row_at};
 ghost use Rattle.qx_machine.specs.Settling.{process_of_item};
 ghost use Rattle.qx_machine.specs.Wants.{item_wants_memory};
-ghost use Rattle.qx_procs.specs.Calls.{has_ended_in};
+ghost use Rattle.qx_clients.specs.Calls.{has_ended_in};
 ghost use Rattle.qx_chan.specs.Serving.{IsReadOf};
 ghost use Rattle.qx_chan.specs.Users.{process_of};
 ghost use Rattle.qx_steps.specs.inner.Held.{taken_item, IsThere};
@@ -17,7 +17,7 @@ ghost use Rattle.qx_steps.specs.inner.Performing.{holds_of, with_one_left, Perfo
 
 use qx_chan::Channel;
 use qx_machine::{Held, OwnItem};
-use qx_process::Reply;
+use qx_rows::Reply;
 use qx_resources::AllResources;
 use qx_types::{Proc, Thread, User};
 use qx_wire::Parsed;

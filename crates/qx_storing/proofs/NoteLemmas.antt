@@ -8,7 +8,7 @@ use Rattle.qx_machine.specs.Machine.{World, boot, step}
 use Rattle.qx_machine.specs.Runs.{entries_from}
 use Rattle.qx_machine.proofs.Runs.{world_after-append}
 use Rattle.qx_world.specs.Trace.{IsAfter, Trace, run_of}
-use Rattle.qx_cut.specs.Cut.{cut_outcome}
+use Rattle.qx_types.specs.Cut.{cut_outcome}
 use Rattle.qx_world.specs.Outcomes.{is_reply}
 use Rattle.qx_world.specs.Seats.{world_then}
 

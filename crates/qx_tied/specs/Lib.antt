@@ -1,3 +1,4 @@
+pub mod Fronts
 pub mod Run
 pub mod Tied
 pub mod inner

@@ -14,7 +14,7 @@ use crate::event::{Event, Tagged};
 use crate::seat::{OfRun, Seat};
 use crate::ties::Ties;
 use crossbeam_utils::CachePadded;
-use qx_history::{Front, Opened};
+use qx_tied::{Front, Opened};
 use qx_running::{PIECE, Piece, Running};
 use qx_types::{Manager, Outcome, Step, Worker};
 use qx_world::{PerformFault, Unstored, Work, World};

@@ -10,7 +10,7 @@ ghost use Rattle.qx_tied.specs.inner.Counts.{GoesOn, IsIdle};
 use crate::event::{Event, Return, Tagged, Try};
 use crate::seat::{OfRun, Seat};
 use crossbeam_utils::CachePadded;
-use qx_history::{Front, Head};
+use qx_tied::{Front, Head};
 use std::marker::Model;
 
 /// More events than a run comes to.

@@ -1,4 +1,5 @@
 pub mod Configuration
+pub mod Cut
 pub mod Flags
 pub mod Managers
 pub mod Optional

@@ -10,7 +10,7 @@ use crate::names::{Prio, User};
 use crate::out_of_range::OutOfRange;
 use crate::user_limits::{LimitName, UserLimits};
 use arrayvec::ArrayVec;
-use qx_bytes::Bytes;
+use qx_base::Bytes;
 use std::alloc::AllocError;
 use std::marker::Model;
 

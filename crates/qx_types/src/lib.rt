@@ -9,12 +9,14 @@
 //! - `config.rt`: a configuration, accepted or not
 //! - `flags.rt`: the flags of an open; the conditions of a notification
 //! - `fields.rt`: where a seek counts from; what a notification is to do, and the value of its pulse
+//! - `cut.rt`: steps and outcomes, cut to what a recorder keeps of them
 //! - `nodes.rt`: what a value has to tell to stand in a line, or to wait in a pipe
 //!
-//! `Bytes` and `MessageBytes` are those of `qx_bytes`, and `Errno` is that of `qx_errno`, handed on.
+//! `Bytes`, `MessageBytes` and `Errno` are those of `qx_base`, handed on.
 #![tactic(auto)]
 
 pub mod config;
+pub mod cut;
 pub mod fields;
 pub mod flags;
 pub mod limits;
@@ -28,6 +30,7 @@ pub mod step;
 pub mod user_limits;
 
 pub use config::Config;
+pub use cut::KEPT;
 pub use fields::{NotifyAction, PulseValue, Whence};
 pub use flags::{Conds, OFlags};
 pub use limits::Limits;
@@ -36,9 +39,8 @@ pub use no_memory::NoMemory;
 pub use nodes::{Ranked, Waiter};
 pub use out_of_range::OutOfRange;
 pub use outcome::{Answer, Outcome};
-pub use qx_bytes::{Bytes, MessageBytes};
+pub use qx_base::{Bytes, Errno, MessageBytes};
 pub use qx_devices::Device;
-pub use qx_errno::Errno;
 pub use request::Request;
 pub use step::Step;
 pub use user_limits::{LimitName, UserLimits};

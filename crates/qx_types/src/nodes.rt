@@ -1,9 +1,9 @@
 ghost use Rattle.std.specs.Prelude.{◌≡◌, ◌≤◌, ℕ, List, Bool, MatchResult, length};
 ghost use Rattle.std.specs.Result.{ForOk};
-ghost use Rattle.qx_errno.specs.declared.Errno.{Errno};
+ghost use Rattle.qx_base.specs.declared.errno.Errno.{Errno};
 
 use crate::names::Prio;
-use qx_errno::Errno;
+use qx_base::Errno;
 
 /// A value that stands in a priority line.
 pub trait Ranked {

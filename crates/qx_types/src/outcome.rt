@@ -1,8 +1,7 @@
 ghost use Rattle.std.specs.Prelude.{◌≡◌};
 
 use crate::names::Item;
-use qx_bytes::MessageBytes;
-use qx_errno::Errno;
+use qx_base::{Errno, MessageBytes};
 use std::alloc::AllocError;
 
 /// What a server answers to a message (C Library Reference: `MsgReply`, `MsgError`).

@@ -3,7 +3,7 @@ ghost use Rattle.std.specs.Prelude.{◌≡◌};
 use crate::fields::{NotifyAction, Whence};
 use crate::flags::{Conds, OFlags};
 use crate::names::Coid;
-use qx_bytes::Bytes;
+use qx_base::Bytes;
 use std::alloc::AllocError;
 
 /// What a client asks of a resource manager. The ranges of the fields are those of the messages (`docs/FORMATS.md`); a

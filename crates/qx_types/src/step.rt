@@ -3,7 +3,7 @@ ghost use Rattle.qx_types.specs.Step.{actor_of, is_client_step};
 
 use crate::names::{Actor, Manager, Prio, Proc, Thread, User, Worker};
 use crate::request::Request;
-use qx_bytes::Bytes;
+use qx_base::Bytes;
 use std::alloc::AllocError;
 
 /// One step of the system, taken by a client or by a worker.

@@ -1,6 +1,6 @@
 ghost use Rattle.std.specs.Prelude.{◌≡◌, ◌≤◌, ◌++◌, IsTrue, IfOk, IsOk, OnErr, OnOk, length, vec_capacity};
 ghost use Rattle.std.specs.Int.{w8, w16, w32, w64, to_le_bytes};
-ghost use Rattle.qx_bytes.specs.Memory.{FitInto, kept_beside};
+ghost use Rattle.qx_base.specs.Memory.{FitInto, kept_beside};
 ghost use Rattle.qx_types.specs.declared.limits.TheConstants.Limits.{BODY};
 ghost use Rattle.qx_wire.specs.Table.{action_number, framed, in_ranges, spelling, whence_number};
 

@@ -1,7 +1,7 @@
 -- What the answers to a message that was served, and to calls that waited, make of the threads' rows and of the lines.
 use Rattle.std.specs.Prelude.{ℕ, List, [], ◌∷◌, Result, Ok, Err}
 use Rattle.qx_types.specs.Managers.{manager_number}
-use Rattle.qx_errno.specs.declared.Errno.{Errno}
+use Rattle.qx_base.specs.declared.errno.Errno.{Errno}
 use Rattle.qx_types.specs.declared.names.Thread.{Thread}
 use Rattle.qx_machine.specs.declared.rows.Over.{Over}
 use Rattle.qx_isolation.specs.declared.rows.OwnItem.TheVariants as item

@@ -21,7 +21,7 @@ use Rattle.qx_queues.specs.Queues.{UsersAnswer, UsersCall, caller, message_of, s
 use Rattle.qx_resources.specs.declared.tables.Tables.{Tables}
 use Rattle.qx_shared.specs.Shared.{Shared, has_disconnect_node, has_thread, waiting_in, with_shared_disconnect, with_shared_line, with_shared_server}
 use Rattle.qx_chan.specs.Nodes.{attaches, served_at}
-use Rattle.qx_procs.specs.Calls.{has_ended_in}
+use Rattle.qx_clients.specs.Calls.{has_ended_in}
 use Rattle.qx_chan.specs.Users.{Users, process_of, thread_row}
 
 -- the message of a thread in this state stands in the line of that number

@@ -7,7 +7,7 @@ use Rattle.qx_machine.specs.declared.rows.ThreadRow.{ThreadRow}
 use Rattle.qx_machine.specs.Processes.{Process}
 use Rattle.qx_process.specs.contracts.process.Process as process
 use Rattle.qx_process.specs.contracts.thread.ThreadCell as cell
-use Rattle.qx_procs.specs.contracts.processes.Processes as processes
+use Rattle.qx_clients.specs.contracts.processes.Processes as processes
 use Rattle.qx_chan.specs.contracts.users.Users as users
 use Rattle.qx_chan.specs.Users.{Users, with_process_of, with_thread_row}
 

@@ -1,7 +1,7 @@
 -- What only the proofs need of Makes.
 use Rattle.std.specs.Prelude.{ℕ, ◌||◌, ⊤, not, Option, Some, None, Result, Ok, is_some}
-use Rattle.qx_errno.specs.declared.Errno.{Errno}
-use Rattle.qx_errno.specs.declared.Errno.TheVariants.{EEXIST, EISDIR, ENOENT, ENOTDIR, ENOTEMPTY}
+use Rattle.qx_base.specs.declared.errno.Errno.{Errno}
+use Rattle.qx_base.specs.declared.errno.Errno.TheVariants.{EEXIST, EISDIR, ENOENT, ENOTDIR, ENOTEMPTY}
 use Rattle.qx_iofunc.specs.declared.found.New.{New}
 use Rattle.qx_machine.specs.declared.rows.Kind.{Kind}
 use Rattle.qx_machine.specs.Inodes.{Inodes, inode_number}

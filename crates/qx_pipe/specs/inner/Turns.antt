@@ -1,7 +1,7 @@
 -- What is left to settle, and what becomes of a call that is served at once and of one that can't be.
 use Rattle.std.specs.Prelude.{◌≡◌, ◌+◌, ◌++◌, ◌∷◌, [], ◌||◌, ℕ, Bool, IsSome, List, None, Option, Some, length}
-use Rattle.qx_device.specs.declared.Told.{Told}
-use Rattle.qx_device.specs.declared.Told.TheVariants as told
+use Rattle.qx_base.specs.declared.device.Told.{Told}
+use Rattle.qx_base.specs.declared.device.Told.TheVariants as told
 use Rattle.qx_types.specs.declared.outcome.Answer.{Answer}
 use Rattle.qx_machine.specs.declared.rows.Manner.{Manner}
 use Rattle.qx_machine.specs.declared.rows.WaitingCall.{WaitingCall}

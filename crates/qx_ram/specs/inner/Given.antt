@@ -1,7 +1,7 @@
 -- What only the proofs need of Given.
 use Rattle.std.specs.Prelude.{ℕ, ℤ, ◌+◌, ◌-◌, Result, Ok, Option, Some, None, max, nat_le, if◌then◌else◌}
-use Rattle.qx_errno.specs.declared.Errno.{Errno}
-use Rattle.qx_errno.specs.declared.Errno.TheVariants.{EFBIG, EINVAL, ENOSPC}
+use Rattle.qx_base.specs.declared.errno.Errno.{Errno}
+use Rattle.qx_base.specs.declared.errno.Errno.TheVariants.{EFBIG, EINVAL, ENOSPC}
 use Rattle.qx_types.specs.declared.limits.TheConstants.Limits.{OFFSET}
 use Rattle.qx_types.specs.UserLimits.{UserLimits}
 use Rattle.qx_machine.specs.Files.{moved_by}

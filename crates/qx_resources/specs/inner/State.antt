@@ -1,6 +1,6 @@
 -- What only the proofs need of State.
 use Rattle.std.specs.Prelude.{◌≡◌, ◌≤◌, Result, Ok, Err}
-use Rattle.qx_errno.specs.declared.Errno.{Errno}
+use Rattle.qx_base.specs.declared.errno.Errno.{Errno}
 use Rattle.qx_types.specs.declared.limits.TheConstants.Limits.{PROCESSES}
 use Rattle.qx_machine.specs.Waiting.{caller_in}
 use Rattle.qx_machine.specs.declared.rows.Opened.{Opened}

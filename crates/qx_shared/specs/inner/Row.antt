@@ -1,6 +1,6 @@
 -- What only the proofs need of Row.
 use Rattle.std.specs.Prelude.{◌≡◌, ℕ, List, [], Option, Some, None, get_or, option_map, slice_set}
-use Rattle.qx_device.specs.Verdict.{Verdict}
+use Rattle.qx_base.specs.Verdict.{Verdict}
 use Rattle.qx_devices.specs.declared.Device.{Device}
 use Rattle.qx_isolation.specs.Rows.{row_at}
 use Rattle.qx_machine.specs.declared.rows.WaitingCall.{WaitingCall}

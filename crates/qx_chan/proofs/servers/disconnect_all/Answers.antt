@@ -2,7 +2,7 @@ use Rattle.std.proofs.Common.{◌≡◌, ◌∙◌, ◌<◌, ◌≤◌, ap, leng
 use Rattle.std.specs.List.{flat_map}
 use Rattle.std.specs.Option.{option_to_list}
 use Rattle.std.proofs.lemmas.List.{take_all}
-use Rattle.qx_process.proofs.RowLemmas.{row_at-get_or, same_default}
+use Rattle.qx_rows.proofs.RowLemmas.{row_at-get_or, same_default}
 use Rattle.qx_chan.specs.inner.Ending.{AllHaveNodes}
 use Rattle.qx_chan.specs.inner.Kept.{with_lost}
 use Rattle.qx_chan.proofs.EndLemmas.{next-there, with_lost-next}

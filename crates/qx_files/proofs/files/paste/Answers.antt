@@ -4,7 +4,7 @@ use Rattle.std.specs.Prelude.{option_map}
 use Rattle.qx_attr.proofs.CountLemmas.{row-set_same}
 use Rattle.qx_machine.specs.Files.{size_of}
 use Rattle.qx_isolation.specs.Rows.{row_at}
-use Rattle.qx_process.proofs.RowLemmas.{set-row, with_row-none}
+use Rattle.qx_rows.proofs.RowLemmas.{set-row, with_row-none}
 use Rattle.qx_files.specs.Blocks.{Held, after_write}
 use Rattle.qx_files.proofs.KeptLemmas.{file-row}
 use Rattle.qx_files.proofs.files.paste.Goals as goal

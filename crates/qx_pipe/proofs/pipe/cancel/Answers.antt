@@ -1,4 +1,4 @@
-use Rattle.qx_errno.specs.declared.Errno.TheVariants.{EINTR}
+use Rattle.qx_base.specs.declared.errno.Errno.TheVariants.{EINTR}
 use Rattle.qx_types.specs.declared.outcome.Answer.TheVariants.{Failed}
 use Rattle.qx_machine.specs.Waiting.{is_call, is_gone, offered, wanted}
 use Rattle.qx_machine.specs.Pipes.{clean, dismissed, settle}

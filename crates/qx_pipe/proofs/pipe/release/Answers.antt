@@ -1,5 +1,5 @@
 use Rattle.std.proofs.Common.{◌≡◌, ◌∙◌, ap, refl, ◌==◌}
-use Rattle.qx_errno.specs.declared.Errno.TheVariants.{EBADF}
+use Rattle.qx_base.specs.declared.errno.Errno.TheVariants.{EBADF}
 use Rattle.qx_types.specs.declared.outcome.Answer.TheVariants.{Failed}
 use Rattle.qx_machine.specs.Waiting.{is_gone, offered, wanted}
 use Rattle.qx_machine.specs.Pipes.{clean, dismissed, readers_ended, settle, without_bytes, writers_ended}

@@ -1,6 +1,6 @@
 use Rattle.std.proofs.Common.{◌≡◌, ◌∙◌, [], Some, refl, ap, sym}
 use Rattle.std.specs.Prelude.{is_some}
-use Rattle.qx_device.specs.declared.Told.TheVariants as told
+use Rattle.qx_base.specs.declared.device.Told.TheVariants as told
 use Rattle.qx_types.specs.declared.outcome.Answer.TheVariants.{Failed}
 use Rattle.qx_machine.specs.Pipes.{write_told}
 use Rattle.qx_machine.specs.Verdicts.{write_of}

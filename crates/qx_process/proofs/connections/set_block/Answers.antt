@@ -1,6 +1,6 @@
 use Rattle.std.proofs.Common.{◌≡◌, ◌<◌, ◌∙◌, arith, get_or, length, rules, refl, Some, None}
 use Rattle.qx_machine.specs.declared.rows.Connection.{Connection}
-use Rattle.qx_process.proofs.RowLemmas.{changed_place, same_default, unchanged_row}
+use Rattle.qx_rows.proofs.RowLemmas.{changed_place, same_default, unchanged_row}
 use Rattle.qx_process.proofs.connections.set_block.Goals as goal
 
 pub returns-in-Some : goal.returns-in-Some

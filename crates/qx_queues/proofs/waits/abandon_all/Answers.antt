@@ -1,6 +1,6 @@
 use Rattle.std.proofs.Common.{◌∙◌, ap, sym, None}
 use Rattle.qx_lists.specs.Table.{with_value}
-use Rattle.qx_process.proofs.RowLemmas.{same_default}
+use Rattle.qx_rows.proofs.RowLemmas.{same_default}
 use Rattle.qx_queues.proofs.AbandonLemmas.{Abandoned-none, Abandoned-one}
 use Rattle.qx_queues.proofs.waits.abandon_all.Goals as goal
 use Rattle.qx_queues.proofs.waits.abandon_all.Goals.{in-Some, in_default}

@@ -1,6 +1,6 @@
 use Rattle.std.proofs.Common.{Some, slice_set, refl, sym, ap, ◌∙◌}
 use Rattle.std.proofs.lemmas.Bool.{false≢true}
-use Rattle.qx_process.proofs.RowLemmas.{set-row}
+use Rattle.qx_rows.proofs.RowLemmas.{set-row}
 use Rattle.qx_steps.proofs.PerformLemmas.{part-in, performs-disconnect, performs-message, performs-pulse}
 use Rattle.qx_steps.proofs.ResultLemmas.{on_err}
 use Rattle.qx_steps.proofs.performing.perform.Goals as goal

@@ -1,5 +1,5 @@
 use Rattle.std.proofs.Common.{length, refl, rules, sym, ◌∙◌, ap}
-use Rattle.qx_process.proofs.RowLemmas.{set-row}
+use Rattle.qx_rows.proofs.RowLemmas.{set-row}
 use Rattle.qx_shared.specs.Shared.{Shared}
 use Rattle.qx_chan.proofs.NodesLemmas.{places-called, shown-called}
 use Rattle.qx_chan.proofs.SendLemmas.{Kept-called, calls-nowhere, has-sender, ready-lent}

@@ -8,7 +8,7 @@ use Rattle.qx_chan.proofs.PerformLemmas.{fits-answered, is_done, nodes-done, per
 use Rattle.qx_chan.proofs.ProcessLemmas.{process-put_back}
 use Rattle.qx_chan.proofs.PulseLemmas.{user-fits}
 use Rattle.qx_chan.proofs.SettledLemmas.{places}
-use Rattle.qx_process.proofs.RowLemmas.{set-row}
+use Rattle.qx_rows.proofs.RowLemmas.{set-row}
 use Rattle.qx_chan.proofs.channel.Channel.serve.Goals as goal
 
 pub returns-in_default-process_mut-clause-ok : goal.returns-in_default-process_mut-clause-ok

@@ -1,7 +1,7 @@
 use Rattle.std.proofs.Common.{◌≡◌, None, rules}
 use Rattle.qx_isolation.specs.Rows.{row_at}
-use Rattle.qx_process.proofs.RowLemmas.{with_row-none}
-use Rattle.qx_procs.specs.Calls.{after_or, with_prio}
+use Rattle.qx_rows.proofs.RowLemmas.{with_row-none}
+use Rattle.qx_clients.specs.Calls.{after_or, with_prio}
 use Rattle.qx_chan.proofs.PrioLemmas.{Kept-ranked}
 use Rattle.qx_chan.proofs.channel.Channel.set_prio.Goals as goal
 

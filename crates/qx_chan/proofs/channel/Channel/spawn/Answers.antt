@@ -1,7 +1,7 @@
 use Rattle.std.proofs.Common.{◌≡◌, ◌-◌, ◌*◌, ◌∙◌, Err, Ok, ap, length, rules, sym}
 use Rattle.qx_machine.specs.Clients.{spawn_number}
 use Rattle.qx_isolation.specs.Rows.{row_at, with_row}
-use Rattle.qx_procs.specs.Calls.{spawned}
+use Rattle.qx_clients.specs.Calls.{spawned}
 use Rattle.qx_shared.proofs.PresenceLemmas.{lines-process}
 use Rattle.qx_shared.specs.Shared.{Shared}
 use Rattle.qx_chan.specs.Nodes.{room_started}

@@ -1,7 +1,7 @@
 use Rattle.std.proofs.Common.{◌≡◌, Some, length, refl, sym, ◌∙◌, ap}
 use Rattle.std.specs.Option.{option_to_list}
 use Rattle.qx_types.specs.Managers.{manager_number}
-use Rattle.qx_errno.specs.declared.Errno.TheVariants.{EINTR}
+use Rattle.qx_base.specs.declared.errno.Errno.TheVariants.{EINTR}
 use Rattle.qx_types.specs.declared.outcome.Answer.TheVariants.{Failed}
 use Rattle.qx_isolation.specs.declared.rows.OwnItem.TheVariants as item
 use Rattle.qx_machine.specs.Machine.{line_without}

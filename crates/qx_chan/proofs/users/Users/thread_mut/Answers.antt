@@ -2,7 +2,7 @@ use Rattle.std.proofs.Common.{◌≡◌, ◌∙◌, ap, inl, inr, refl, sym, Som
 use Rattle.std.specs.Option.{option_copied_mut}
 use Rattle.qx_machine.specs.Parts.{thread_of}
 use Rattle.qx_isolation.specs.Rows.{row_at}
-use Rattle.qx_process.proofs.RowLemmas.{set-row}
+use Rattle.qx_rows.proofs.RowLemmas.{set-row}
 use Rattle.qx_chan.proofs.RowReads.{option_cases}
 use Rattle.qx_chan.proofs.users.Users.thread_mut.Goals as goal
 

@@ -5,7 +5,7 @@ use Rattle.qx_iofunc.specs.Lookups.{HasFreeName}
 use Rattle.qx_iofunc.specs.Makes.{may_make}
 use Rattle.qx_iofunc.specs.Store.{Store}
 use Rattle.qx_names.specs.Spots.{spot_of}
-use Rattle.qx_errno.specs.declared.Errno.TheVariants.{ENOENT}
+use Rattle.qx_base.specs.declared.errno.Errno.TheVariants.{ENOENT}
 use Rattle.qx_iofunc.specs.declared.found.Lookup.TheVariants.{Missing}
 use Rattle.qx_iofunc.proofs.store.Store.lookup.Goals as goal
 

@@ -6,7 +6,7 @@ use Rattle.qx_machine.specs.declared.rows.Kind.TheVariants.{Directory}
 use Rattle.qx_isolation.specs.Rows.{row_at}
 use Rattle.qx_names.specs.Paths.{HasNoPath}
 use Rattle.qx_names.specs.Spots.{spot_of}
-use Rattle.qx_errno.specs.declared.Errno.TheVariants.{EEXIST}
+use Rattle.qx_base.specs.declared.errno.Errno.TheVariants.{EEXIST}
 use Rattle.qx_iofunc.proofs.store.Store.mkdir.Goals.{In-Ok-may_make_directory}
 use Rattle.qx_iofunc.proofs.store.Store.mkdir.Goals as goal
 

@@ -1,8 +1,8 @@
 use Rattle.std.proofs.Common.{◌≡◌, [], Err, Ok, Result, ap, refl, rules, subst, sym, ◌∙◌}
 use Rattle.std.specs.Prelude.{⊤}
 use Rattle.qx_isolation.specs.Judgements.{◌>>=◌}
-use Rattle.qx_errno.specs.declared.Errno.{Errno}
-use Rattle.qx_errno.specs.declared.Errno.TheVariants.{EBUSY}
+use Rattle.qx_base.specs.declared.errno.Errno.{Errno}
+use Rattle.qx_base.specs.declared.errno.Errno.TheVariants.{EBUSY}
 use Rattle.qx_machine.specs.declared.rows.Effect.TheVariants.{Keeps}
 use Rattle.qx_machine.specs.Functions.{reply_alone}
 use Rattle.qx_machine.specs.Names as of_names

@@ -7,7 +7,7 @@ use Rattle.qx_machine.specs.declared.rows.Kind.{Kind}
 use Rattle.qx_machine.specs.declared.rows.Kind.TheVariants as kind
 use Rattle.qx_machine.specs.Names.{has_calls}
 use Rattle.qx_isolation.specs.Rows.{row_at}
-use Rattle.qx_process.proofs.RowLemmas.{with_row-none}
+use Rattle.qx_rows.proofs.RowLemmas.{with_row-none}
 use Rattle.qx_iofunc.proofs.store.Store.set_size.Goals.{then-filled, else-filled}
 use Rattle.qx_iofunc.proofs.store.Store.set_size.Goals as goal
 

@@ -4,7 +4,7 @@ use Rattle.qx_iofunc.proofs.StoreLemmas.{StoreFits, unlinked_fits}
 use Rattle.qx_iofunc.specs.Store.{Stored}
 use Rattle.qx_machine.specs.Names as of_names
 use Rattle.qx_names.specs.Spots.{spot_of}
-use Rattle.qx_errno.specs.declared.Errno.TheVariants.{EBUSY}
+use Rattle.qx_base.specs.declared.errno.Errno.TheVariants.{EBUSY}
 use Rattle.qx_iofunc.proofs.store.Store.unlink.Goals as goal
 
 pub take_name-is_gone-requires-clause-named : goal.take_name-is_gone-requires-clause-named

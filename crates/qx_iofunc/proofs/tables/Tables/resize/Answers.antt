@@ -1,7 +1,7 @@
 use Rattle.std.proofs.Common.{◌≡◌, None, refl, sym}
 use Rattle.qx_machine.specs.Resources.{resized}
 use Rattle.qx_isolation.specs.Rows.{row_at}
-use Rattle.qx_process.proofs.RowLemmas.{with_row-none}
+use Rattle.qx_rows.proofs.RowLemmas.{with_row-none}
 use Rattle.qx_iofunc.proofs.tables.Tables.resize.Goals as goal
 
 pub returns-in_default : goal.returns-in_default

@@ -1,6 +1,6 @@
 use Rattle.std.proofs.Common.{◌≡◌, None, get_or, sym, ◌∙◌, ap, true, false}
 use Rattle.qx_machine.specs.Servers.{is_left}
-use Rattle.qx_process.proofs.RowLemmas.{refill-set}
+use Rattle.qx_rows.proofs.RowLemmas.{refill-set}
 use Rattle.qx_process.proofs.ServerLemmas.{left_freed, used_kept}
 use Rattle.qx_process.proofs.servers.Servers.free.Goals as goal
 

@@ -1,5 +1,5 @@
 use Rattle.std.proofs.Common.{◌≡◌, ◌≤◌, get_or, length, ◌∙◌, sym}
-use Rattle.qx_process.proofs.RowLemmas.{same_default}
+use Rattle.qx_rows.proofs.RowLemmas.{same_default}
 use Rattle.qx_queues.specs.Nodes.{no_process_nodes}
 use Rattle.qx_queues.proofs.NodesLemmas.{disconnect_at-no_process, disconnect_at-no_user}
 use Rattle.qx_queues.proofs.nodes.Nodes.disconnect.Goals as goal

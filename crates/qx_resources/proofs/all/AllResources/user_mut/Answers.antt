@@ -1,6 +1,6 @@
 use Rattle.std.proofs.Common.{rules, ◌≡◌, ◌<◌, ◌∙◌, sym, refl, length, get_or, slice_set}
 use Rattle.qx_isolation.specs.Rows.{row_at}
-use Rattle.qx_process.proofs.RowLemmas.{set-same, row_at-place}
+use Rattle.qx_rows.proofs.RowLemmas.{set-same, row_at-place}
 use Rattle.qx_resources.proofs.all.AllResources.user_mut.Goals as goal
 
 pub returns : goal.returns

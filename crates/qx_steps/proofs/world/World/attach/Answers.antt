@@ -1,6 +1,6 @@
 use Rattle.std.proofs.Common.{Some, slice_set, sym}
 use Rattle.qx_paths.specs.Mounts.{with_mount_of}
-use Rattle.qx_process.proofs.RowLemmas.{set-row}
+use Rattle.qx_rows.proofs.RowLemmas.{set-row}
 use Rattle.qx_resources.specs.Mounts.{with_new_root}
 use Rattle.qx_steps.proofs.MountLemmas.{attached, attached-can, attached_of, nobody-attached, sound-mount}
 use Rattle.qx_steps.proofs.ResultLemmas.{on_err}

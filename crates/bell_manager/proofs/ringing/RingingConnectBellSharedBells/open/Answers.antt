@@ -1,7 +1,0 @@
-use Rattle.std.proofs.Common.{rules}
-use Rattle.bell_manager.proofs.DeedLemmas.{opened}
-use Rattle.bell_manager.proofs.ringing.RingingConnectBellSharedBells.open.Goals as goal
-
-pub returns-clause-did : goal.returns-clause-did
-returns-clause-did c =
-    opened c.args.state.now c.args._waits.now c.requires.fits _ c.args.over c.in-Ok.over c.in-Ok-free_number.number c.args.rest.now c.args.wish (search rules) (search rules) (search rules) (search rules)

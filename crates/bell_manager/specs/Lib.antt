@@ -1,2 +1,0 @@
-pub mod Bell
-pub mod inner

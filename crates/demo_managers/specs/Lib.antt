@@ -1,0 +1,3 @@
+pub mod Null
+pub mod Bell
+pub mod inner

@@ -1,2 +1,0 @@
--- A notification that wants memory arms one event more.
-pub mod ArmLemmas

@@ -1,3 +1,0 @@
--- where the bytes of a message stand, and the memory that is kept for them
-pub mod Items
-pub mod Memory

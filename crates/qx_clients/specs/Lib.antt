@@ -1,0 +1,5 @@
+pub mod Calls
+pub mod Lends
+pub mod Refusals
+pub mod Targets
+pub mod inner

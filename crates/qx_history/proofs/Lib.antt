@@ -1,4 +1,0 @@
--- beginnings of one list
-mod FrontLemmas
--- the move that adds an entry
-mod AddLemmas

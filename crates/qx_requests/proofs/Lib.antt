@@ -1,3 +1,0 @@
--- what a judged request sends, and over what
-mod ContentLemmas
-mod SendLemmas

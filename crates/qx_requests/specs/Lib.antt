@@ -1,3 +1,0 @@
-pub mod Refusals
-pub mod Targets
-pub mod inner

@@ -1,0 +1,2 @@
+-- tables of rows: reads and changes of one place
+pub mod RowLemmas

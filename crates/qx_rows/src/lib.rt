@@ -1,0 +1,14 @@
+//! Rows under small numbers, and the bytes of a reply with the room that is kept for them.
+//!
+//! - `places.rt`: tables of rows under small numbers; the lowest free number
+//! - `room.rt`: memory for a reply, there when a message is sent, which may keep a call's bytes until then; the bytes
+//!   of a reply, with the room or without
+//! - `reply.rt`: the bytes of a reply while a function writes them
+#![tactic(auto)]
+
+pub mod places;
+mod reply;
+pub mod room;
+
+pub use reply::Reply;
+pub use room::Room;

@@ -1,5 +1,0 @@
-use Rattle.qx_lines.specs.Line.{IsLineOf}
-use Rattle.times.proofs.calls.line_up.Given as goal
-
-abbrev pub invariant-nodes : goal.invariant-nodes
-invariant-nodes l = IsLineOf (λ item. 10) l.table l.line
