@@ -2,8 +2,9 @@
 //! of message passing: what stands beside a thread's message, the room for its reply, and its place in a line change
 //! together.
 
-ghost use Rattle.std.specs.Prelude.{◌≡◌, ◌*◌, ◌≤◌, ℕ, Ok, false, length, max, slice_get, IfOk, IfSome, IsErr, IsOk, IsTrue, OnOk, OnErr, vec_capacity};
+ghost use Rattle.std.specs.Prelude.{◌≡◌, ◌*◌, ◌≤◌, ℕ, Ok, false, length, max, slice_get, IfOk, IfSome, IsErr, IsOk, IsTrue, OnOk, OnErr, drop, find, nat_lt, vec_capacity};
 ghost use Rattle.std.specs.Option.{option_copied};
+ghost use Rattle.qx_types.specs.Managers.{managers};
 ghost use Rattle.qx_machine.specs.Events.{first_pulse};
 ghost use Rattle.qx_machine.specs.Parts.{thread_of};
 ghost use Rattle.qx_machine.specs.Processes.{living, with_queued};
@@ -108,6 +109,13 @@ impl Channel {
         ensures count { result ≡ length (channel_line self.now manager) }
     {
         self.tables.shared.len(manager)
+    }
+
+    /// The first manager, by number and from one on, in whose line an item stands.
+    pub fn next_from(&self, number: usize) -> Option<Manager>
+        ensures { result ≡ find (λ manager. nat_lt 0 (length (channel_line self.now manager))) (drop number managers) }
+    {
+        self.tables.shared.next_from(number)
     }
 
     /// Starts a process of a user with these limits, of 1 to 4 ready threads of a priority from 1 to the ceiling, under the

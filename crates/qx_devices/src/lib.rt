@@ -27,8 +27,8 @@ impl Device {
     ghost use Rattle.qx_devices.specs.Devices.{device_named, device_number, device_word, devices, has_input, has_output, read_verdict, write_verdict};
     ghost use Rattle.qx_devices.specs.declared.TheConstants.Device.{MOST};
 
-    /// The most devices that can be listed.
-    pub const MOST: usize = 64;
+    /// The most devices that can be listed: with the other managers as many as a word has bits.
+    pub const MOST: usize = 62;
 
     /// How many devices are listed.
     #[tactic(auto, unfolding(crate::specs::Count::device_count, crate::specs::Listed::listed))]

@@ -30,3 +30,5 @@ pub mod SetLemmas
 pub mod PresenceLemmas
 -- The value, as calls leave a list and are answered.
 pub mod LeavingLemmas
+-- which lines have an item
+mod MarkLemmas

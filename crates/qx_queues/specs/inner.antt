@@ -1,4 +1,5 @@
 pub mod Kept
+pub mod Marks
 pub mod Queues
 pub mod Waiting
 pub mod Waits

@@ -1,6 +1,7 @@
 //! The managers' lines, and the nodes that stand in them.
 //!
 //! - `queues.rt`: `Queues`, the table of nodes, the managers' lines over it and the list of answered nodes
+//! - `marks.rt`: which lines have an item
 //! - `waits.rt`: calls that wait, in lists by number, and their answers
 //! - `calls.rt`: a call that waits in a pipe, with the room for its reply, in which what it writes is kept
 //! - `leaving.rt`: which calls of a list are meant
@@ -16,6 +17,7 @@
 
 pub mod calls;
 pub mod leaving;
+pub(crate) mod marks;
 pub mod nodes;
 pub mod queues;
 pub mod waiting;

@@ -1,9 +1,9 @@
 //! The managers' lines and the lists of calls that wait or were answered, over one table, in which the nodes of all users'
 //! threads and server connections stand.
 
-ghost use Rattle.std.specs.Prelude.{◌≡◌, ℕ, ◌+◌, ◌-◌, ◌*◌, ◌<◌, ◌≤◌, false, option_map, length, drop, slice_get, is_some, max, IfOk, IsOk, OnOk, OnErr, IfSome, IsTrue, None, Some};
+ghost use Rattle.std.specs.Prelude.{◌≡◌, ℕ, ◌+◌, ◌-◌, ◌*◌, ◌<◌, ◌≤◌, false, option_map, length, drop, slice_get, is_some, max, IfOk, IsOk, OnOk, OnErr, IfSome, IsTrue, None, Some, find, nat_lt};
 ghost use Rattle.std.specs.FinMap as maps;
-ghost use Rattle.qx_types.specs.Managers.{manager_number};
+ghost use Rattle.qx_types.specs.Managers.{manager_number, managers};
 ghost use Rattle.qx_types.specs.declared.limits.TheConstants.Limits.{PROCESSES, THREADS};
 ghost use Rattle.qx_lists.specs.Table.{ContainsNode, IsFree, IsIn, nodes_of, with_nodes, with_value, without};
 ghost use Rattle.qx_lines.specs.Line.{IsInLine, IsLineOf};
@@ -16,6 +16,7 @@ ghost use Rattle.qx_queues.specs.Nodes.{Unblock};
 ghost use Rattle.qx_queues.specs.Waiting.{ComesWithRoom, addressed_by, idle, rank_of};
 ghost use Rattle.qx_queues.specs.inner.Waiting.{KeepsRoom, load_of, ranked};
 
+use crate::marks::{Marks, lowest_from, marked};
 use crate::nodes::{Nodes, ThreadNodes};
 use crate::waiting::{Answered, Slot, Waiting};
 use qx_lines::{Line, uncounted as lines};
@@ -31,6 +32,7 @@ use std::marker::Model;
 pub struct Queues {
     pub(crate) table: Table<Waiting>,
     lines: Vec<Line>,
+    marks: Marks,
     pub(crate) answered: usize,
     pub(crate) nodes: Nodes,
 }
@@ -40,6 +42,7 @@ impl Model for Queues {
     ghost use Rattle.qx_types.specs.Managers.{manager_count};
     ghost use Rattle.qx_queues.specs.Queues as words;
     ghost use Rattle.qx_queues.specs.inner.Kept.{KnowsPulses, AreListsOfTable, answered_calls, entries, waiting_lists};
+    ghost use Rattle.qx_queues.specs.inner.Marks.{AreMarked};
     ghost use Rattle.qx_queues.specs.Nodes.{pulse_line_at, node_of, servers_of, threads_of};
 
     ghost Value = { words.Queues };
@@ -56,7 +59,7 @@ impl Model for Queues {
       answered = answered_calls c.table c.answered;
     } };
 
-    ghost invariant = { λ c. (length c.lines.items ≡ manager_count) × AreListsOfTable c.table c.lines.items c.answered (node_of c.nodes) × KnowsPulses (map (entries c.table) c.lines.items) (pulse_line_at c.nodes) };
+    ghost invariant = { λ c. (length c.lines.items ≡ manager_count) × AreListsOfTable c.table c.lines.items c.answered (node_of c.nodes) × KnowsPulses (map (entries c.table) c.lines.items) (pulse_line_at c.nodes) × AreMarked c.marks c.lines.items };
 }
 
 impl Queues {
@@ -76,6 +79,7 @@ impl Queues {
         Ok(Queues {
             table,
             lines,
+            marks: 0,
             answered,
             nodes,
         })
@@ -92,6 +96,7 @@ impl Queues {
         let node = self.nodes.there(thread).message;
         let line = &mut self.lines[manager.number()];
         put_again(&mut self.table, line, node, prio);
+        self.marks = marked(self.marks, manager.number(), true);
     }
 
     /// Takes the first item of a line, a message or a pulse (C Library Reference: `MsgReceive`); the node of a disconnect pulse
@@ -102,7 +107,10 @@ impl Queues {
         ensures gone { IfSome result (λ first. IsGone first (drop 1 (queues_line self.old (manager_number manager)))) }
     {
         self.table.know();
-        let (node, first) = take_out(&mut self.table, &mut self.lines[manager.number()])?;
+        let line = &mut self.lines[manager.number()];
+        let taken = take_out(&mut self.table, line);
+        self.marks = marked(self.marks, manager.number(), line.len() > 0);
+        let (node, first) = taken?;
         match first.item {
             OwnItem::Message { .. } => {}
             OwnItem::Unblock {
@@ -137,6 +145,7 @@ impl Queues {
         let line = &mut self.lines[manager.number()];
         let pulse = queued_unblock(thread, call, prio);
         put_in(&mut self.table, line, own.unblock, pulse);
+        self.marks = marked(self.marks, manager.number(), true);
         self.nodes.set_asked(thread, Some(manager));
     }
 
@@ -153,6 +162,7 @@ impl Queues {
         self.table.know();
         let line = &mut self.lines[manager.number()];
         remove(&mut self.table, line, own.message);
+        self.marks = marked(self.marks, manager.number(), line.len() > 0);
     }
 
     /// Takes the pulse that asks to unblock a thread from a call out of the line, if it stands there, as the call is
@@ -177,6 +187,7 @@ impl Queues {
         self.table.know();
         let line = &mut self.lines[manager.number()];
         remove(&mut self.table, line, own.unblock);
+        self.marks = marked(self.marks, manager.number(), line.len() > 0);
         self.nodes.set_asked(thread, None);
     }
 
@@ -213,6 +224,13 @@ impl Queues {
         ensures count { result ≡ length (queues_line self.now (manager_number manager)) }
     {
         self.lines[manager.number()].len()
+    }
+
+    /// The first manager, by number and from one on, in whose line an item stands.
+    pub fn next_from(&self, number: usize) -> Option<Manager>
+        ensures { result ≡ find (λ manager. nat_lt 0 (length (queues_line self.now (manager_number manager)))) (drop number managers) }
+    {
+        Manager::of_number(lowest_from(self.marks, number)?)
     }
 
     /// Makes room for the nodes of so many threads.
@@ -335,6 +353,7 @@ impl Queues {
         let line = &mut self.lines[server.manager.number()];
         let pulse = queued_disconnect(proc, server);
         put_in(&mut self.table, line, node, pulse);
+        self.marks = marked(self.marks, server.manager.number(), true);
         self.nodes.set_disconnect(proc, server.manager, None);
     }
 }

@@ -1,8 +1,8 @@
 //! The managers' lines, the nodes of all users' threads and server connections, and the pipes of all users, in which calls
 //! wait.
 
-ghost use Rattle.std.specs.Prelude.{◌≡◌, ℕ, ◌+◌, ◌-◌, ◌*◌, ◌<◌, ◌≤◌, [], false, option_map, length, drop, slice_get, is_some, max, IfOk, IsOk, OnOk, OnErr, IfSome, IsTrue, None, Some, Ok};
-ghost use Rattle.qx_types.specs.Managers.{manager_number};
+ghost use Rattle.std.specs.Prelude.{◌≡◌, ℕ, ◌+◌, ◌-◌, ◌*◌, ◌<◌, ◌≤◌, [], false, option_map, length, drop, slice_get, is_some, max, IfOk, IsOk, OnOk, OnErr, IfSome, IsTrue, None, Some, Ok, find, nat_lt};
+ghost use Rattle.qx_types.specs.Managers.{manager_number, managers};
 ghost use Rattle.qx_types.specs.declared.limits.TheConstants.Limits.{PROCESSES, THREADS};
 ghost use Rattle.qx_isolation.specs.Lines.{into};
 ghost use Rattle.qx_machine.specs.Machine as machine;
@@ -145,6 +145,13 @@ impl Shared {
         ensures count { result ≡ length (shared_line self.now (manager_number manager)) }
     {
         self.queues.len(manager)
+    }
+
+    /// The first manager, by number and from one on, in whose line an item stands.
+    pub fn next_from(&self, number: usize) -> Option<Manager>
+        ensures { result ≡ find (λ manager. nat_lt 0 (length (shared_line self.now (manager_number manager)))) (drop number managers) }
+    {
+        self.queues.next_from(number)
     }
 
     /// Makes room for the nodes of so many threads.

@@ -26,5 +26,3 @@ pub mod PerformLemmas
 pub mod WorkerLemmas
 -- a process takes its first pulse
 pub mod PulseLemmas
--- managers, one after the other
-mod NextLemmas

@@ -1,7 +1,7 @@
 //! The rows of all users, the managers' lines and what each worker holds, with one call for each step.
 
-ghost use Rattle.std.specs.Prelude.{◌≡◌, ◌∷◌, ◌↔◌, ◌≢◌, None, Some, Ok, Err, IfOk, IsErr, IsOk, IsTrue, IsFalse, OnOk, OnErr, IsErrOf, find, length, is_some, option_map, replicate, slice_get, slice_set, MatchOption};
-ghost use Rattle.std.specs.Option.{option_copied, option_to_list};
+ghost use Rattle.std.specs.Prelude.{◌≡◌, ◌∷◌, ◌↔◌, ◌≢◌, None, Some, Ok, Err, IfOk, IsErr, IsOk, IsTrue, IsFalse, OnOk, OnErr, IsErrOf, drop, find, length, is_some, option_map, replicate, slice_get, slice_set, MatchOption};
+ghost use Rattle.std.specs.Option.{option_copied};
 ghost use Rattle.qx_types.specs.Managers.{managers};
 ghost use Rattle.qx_types.specs.declared.outcome.Outcome.TheVariants as outcome;
 ghost use Rattle.qx_machine.specs.Laws.{IsSettled, is_refusal};
@@ -537,23 +537,14 @@ impl World {
     pub fn next_manager(&self) -> Option<Manager>
         ensures { result ≡ next_manager self.now }
     {
-        'managers: for number in 0..Manager::count() {
-            if let Some(manager) = self.waiting_manager(number) {
-                return Some(manager);
-            }
-        }
-        None
+        self.next_from(0)
     }
 
-    /// The manager of a number, if an item waits for it.
-    fn waiting_manager(&self, number: usize) -> Option<Manager>
-        ensures { result ≡ find (has_item self.now) (option_to_list (slice_get managers number)) }
+    /// The first manager, by number and from one on, in whose line an item stands. Managers with empty lines cost nothing.
+    pub fn next_from(&self, number: usize) -> Option<Manager>
+        ensures { result ≡ find (has_item self.now) (drop number managers) }
     {
-        let manager = Manager::of_number(number)?;
-        if self.waiting(manager) == 0 {
-            return None;
-        }
-        Some(manager)
+        self.channel.next_from(number)
     }
 
     /// Tells that some steps lead to the world from boot.

@@ -10,6 +10,7 @@ invariant_of-self c =
       c.self.invariant.0,
       Kept-abandoned c.self.inside.table c.self.inside.lines.items c.self.inside.nodes kept c.args.proc c.threads.result.now c.threads.ensures.own _ c.abandon_all.ensures,
       pulses-abandoned c.self.inside.table c.self.inside.lines.items c.self.inside.nodes kept c.args.proc c.threads.result.now c.threads.ensures.own _ c.abandon_all.ensures _ c.self.invariant.2,
+      c.self.invariant.3,
     )
 
 pub returns : goal.returns

@@ -18,6 +18,7 @@ invariant_of-self c =
       rw c.set.ensures.set (Kept-made c.new_node-message.new.table _ _ _ _ c.new_node-unblock.ensures.made c.new_node-unblock.ensures.was_new c.know-2.ensures.there c.self.inside.lines.items _ _ (Unblock c.args.thread)
           (ap (option_map (λ own. own.unblock)) fresh) (ap (option_map (λ own. own.unblock)) gets) (half-second c.self.inside.nodes c.args.thread _) (rw (c.new-2.ensures.entry, c.queued_unblock.ensures.pulse) refl) (ap (λ w. w.load) c.new-2.ensures.entry) first),
       KnowsPulses-same _ _ _ _ shown (rw c.set.ensures.set (asked_at-same _ _ _ gets (sym (ap asked_in fresh)))) c.self.invariant.2,
+      c.self.invariant.3,
     )
 
 pub returns : goal.returns

@@ -29,6 +29,7 @@ invariant_of-self-2 c =
       c.self.invariant.0,
       Kept-moved c.self.inside.table _ _ _ _ _ c.self.invariant.1 moved apart.0 (λ same. refl) (λ node absent. nothing-changed c.self.inside.table c.add_list.new.self c.in_ok-list.list (ap (λ t. t.values) c.in_ok-list.ensures.made) (ap (λ o. unwrap_or o []) c.in_ok-list.ensures.was_new) node) (λ node at. absurd (omega (arith, at.1))),
       pulses-moved c.self.inside.table _ _ _ _ _ c.self.invariant.1 moved apart.0 _ c.self.invariant.2,
+      c.self.invariant.3,
     )
 
 pub returns-clause-made : goal.returns-clause-made

@@ -29,6 +29,7 @@ invariant_of-self-2 c =
       rw c.set_disconnect.ensures.set (Kept-made c.reserve.new.self _ _ _ _ c.new_node-node.ensures.made c.new_node-node.ensures.was_new c.know.ensures.there c.self.inside.lines.items _ _ (Disconnect c.args.proc (manager_number c.args.manager))
           (none_of _ (search rules)) gets (node_of-with_disconnect c.self.inside.nodes c.args.proc (manager_number c.args.manager) _) (rw (c.new.ensures.entry, c.queued_message.ensures.message) refl) (ap (λ w. w.load) c.new.ensures.entry) kept),
       KnowsPulses-same _ _ _ _ (shown-kept c.self.inside.table c.new_node-node.new.table c.self.inside.lines.items same) (λ thread. rw c.set_disconnect.ensures.set (ap asked_in (nodes_at-with_disconnect c.self.inside.nodes c.args.proc (manager_number c.args.manager) _ thread))) c.self.invariant.2,
+      c.self.invariant.3,
     )
 
 pub returns-then-is_some-clause-ok : goal.returns-then-is_some-clause-ok

@@ -10,6 +10,7 @@ use Rattle.qx_queues.specs.inner.Kept.{AreListsOfTable, entries}
 use Rattle.qx_queues.specs.Nodes.{Unblock, node_of}
 use Rattle.qx_queues.proofs.EntryLemmas.{reads-call}
 use Rattle.qx_queues.proofs.KeptLemmas.{IsFree-own, Kept-owners, Kept-put, calls-put, no_call-unblock, shown-put}
+use Rattle.qx_queues.proofs.MarkLemmas.{has_one, remarked}
 use Rattle.qx_queues.proofs.PresenceLemmas.{nodes-there, same_queues}
 use Rattle.qx_queues.proofs.PulseLemmas.{pulses-asked}
 use Rattle.qx_queues.proofs.queues.Queues.ask_unblock.Goals as goal
@@ -39,6 +40,7 @@ invariant_of-self c =
       length-set c.self.inside.lines.items c.number.result c.put_in.new.line ∙ c.self.invariant.0,
       Kept-owners _ _ _ _ c.set_asked.ensures.asked.nodes kept,
       rw shown (pulses-asked _ c.number.result _ within c.self.invariant.2 rank c.args.thread c.args.call c.args.prio.0 _ c.set_asked.ensures.asked.others (c.set_asked.ensures.asked.here ∙ ap Some (sym c.number.ensures.number)) idle),
+      remarked _ c.marked-self-inside.result _ c.number.result _ _ _ (c.number-2.ensures.number ∙ sym c.number.ensures.number) is c.self.invariant.3 (c.marked-self-inside.ensures.set ∙ sym (has_one _ _ _ _ _ _ c.put_in.ensures.put)) c.marked-self-inside.ensures.others,
     )
 
 pub returns : goal.returns

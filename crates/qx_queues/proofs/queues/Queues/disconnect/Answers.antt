@@ -9,6 +9,7 @@ use Rattle.qx_queues.specs.inner.Kept.{entries, named}
 use Rattle.qx_queues.specs.Nodes.{Disconnect, asked_in, disconnect_at}
 use Rattle.qx_queues.proofs.KeptLemmas.{IsFree-disconnect, Kept-lost, calls-put, nobodys-disconnect, shown-put}
 use Rattle.qx_queues.proofs.NodesLemmas.{length-with_disconnect, node_of-with_disconnect, nodes_at-with_disconnect, started-server}
+use Rattle.qx_queues.proofs.MarkLemmas.{has_one, remarked}
 use Rattle.qx_queues.proofs.PresenceLemmas.{same_queues, servers-freed, servers-nodes, threads-with_disconnect}
 use Rattle.qx_queues.proofs.PulseLemmas.{KnowsPulses-same, pulses-disconnected}
 use Rattle.qx_queues.proofs.TableLemmas.{absent_is}
@@ -37,6 +38,7 @@ invariant_of-self c =
       length-set c.self.inside.lines.items c.number.result c.put_in.new.line ∙ c.self.invariant.0,
       rw c.set_disconnect.ensures.set (Kept-lost c.self.inside.table _ _ c.number.result _ _ _ (Disconnect c.args.proc (manager_number c.args.server.manager)) _ _ c.self.invariant.1 is had free c.put_in.ensures.put _ gone (node_of-with_disconnect c.self.inside.nodes c.args.proc (manager_number c.args.server.manager) None) lost nobodys refl),
       KnowsPulses-same _ _ _ _ shown (λ thread. rw c.set_disconnect.ensures.set (ap asked_in (nodes_at-with_disconnect c.self.inside.nodes c.args.proc (manager_number c.args.server.manager) None thread))) (pulses-disconnected _ c.number.result _ within c.self.invariant.2 rank c.args.proc c.args.server),
+      remarked _ c.marked-self-inside.result _ c.number.result _ _ _ (c.number-2.ensures.number ∙ sym c.number.ensures.number) is c.self.invariant.3 (c.marked-self-inside.ensures.set ∙ sym (has_one _ _ _ _ _ _ c.put_in.ensures.put)) c.marked-self-inside.ensures.others,
     )
 
 pub returns : goal.returns

@@ -36,6 +36,7 @@ invariant_of-self c =
       c.self.invariant.0,
       Kept-moved c.self.inside.table _ _ _ _ _ c.self.invariant.1 moved off.0 (λ same. absurd (off.1 same)) (λ node absent. nothing-changed c.self.inside.table c.free_list.new.self c.args.list (ap (λ t. t.values) c.free_list.ensures) (ap (λ o. unwrap_or o []) empty) node) (λ node at. absurd (omega (arith, at.1))),
       pulses-moved c.self.inside.table _ _ _ _ _ c.self.invariant.1 moved off.0 _ c.self.invariant.2,
+      c.self.invariant.3,
     )
 
 pub returns : goal.returns

@@ -6,6 +6,7 @@ use Rattle.qx_queues.specs.inner.Kept.{AreListsOfTable, given_at}
 use Rattle.qx_queues.specs.Nodes.{asked_in, no_nodes, no_process_nodes, node_of}
 use Rattle.qx_queues.proofs.BesideLemmas.{empty-line, first_list, no_pipes-line, waiting-none}
 use Rattle.qx_queues.proofs.KeptLemmas.{Kept-line, Kept-none, shown-none}
+use Rattle.qx_queues.proofs.MarkLemmas.{none_marked}
 use Rattle.qx_queues.proofs.NodesLemmas.{node_of-none, nodes_at-none}
 use Rattle.qx_queues.proofs.PresenceLemmas.{same_queues, servers-none, threads-none}
 use Rattle.qx_queues.proofs.PulseLemmas.{KnowsPulses-none}
@@ -33,6 +34,7 @@ invariant_of-result c = (
   omega (arith, c.managers.invariant.0, c.managers-test.false, c.managers.auto.counter-end, c.count-end.ensures.count),
   rw c.in_ok-nodes.ensures.none c.managers.invariant.2,
   KnowsPulses-none _ _ _ (shown-none c.managers.table c.managers.invariant.4 c.managers.lines.items) (λ thread. rw c.in_ok-nodes.ensures.none (ap asked_in (nodes_at-none c.args.users thread))),
+  none_marked c.managers.table c.managers.lines.items c.managers.invariant.2.line c.managers.invariant.4,
 )
 
 pub returns : goal.returns

@@ -19,6 +19,7 @@ invariant_of-self c =
       c.self.invariant.0,
       rw c.set.ensures.set (Kept-removed c.self.inside.table c.self.inside.lines.items c.self.inside.nodes c.args.thread c.in-Some.own c.self.invariant.1 has (rw (← c.self.view_is) at c.requires.idle) (rw (← c.self.view_is) at c.requires.unasked) (rw (← c.self.view_is) at c.requires.no_call) _ c.give_back.ensures.freed _ c.give_back-2.ensures.freed gone),
       rw c.set.ensures.set (pulses-removed c.self.inside.table c.self.inside.lines.items c.self.inside.nodes c.args.thread c.in-Some.own c.self.invariant.1 has (rw (← c.self.view_is) at c.requires.idle) (rw (← c.self.view_is) at c.requires.unasked) (rw (← c.self.view_is) at c.requires.no_call) _ c.give_back.ensures.freed _ c.give_back-2.ensures.freed gone c.self.invariant.2),
+      c.self.invariant.3,
     )
 
 pub returns : goal.returns

@@ -1,4 +1,4 @@
-use Rattle.std.proofs.Common.{◌≡◌, ◌<◌, Some, None, true, false, is_some, length, option_map, map, slice_get, slice_set, sym, ◌∙◌, ap, refl, arith}
+use Rattle.std.proofs.Common.{nat_lt, ◌≡◌, ◌<◌, Some, None, true, false, is_some, length, option_map, map, slice_get, slice_set, sym, ◌∙◌, ap, refl, arith}
 use Rattle.std.proofs.lemmas.List.{length-map, length-set}
 use Rattle.std.proofs.lemmas.Option.{slice_get_read}
 use Rattle.qx_types.specs.Managers.{manager_count, manager_number}
@@ -16,6 +16,7 @@ use Rattle.qx_queues.specs.Waiting.{rank_of}
 use Rattle.qx_queues.proofs.EntryLemmas.{reads-call, with_line-same}
 use Rattle.qx_queues.proofs.KeptLemmas.{Kept-owners, Kept-taken, calls-taken, gone-own, in_line-own, line_at-shown, other-stays, other-field, pulse-leaves, shown-taken}
 use Rattle.qx_queues.proofs.NodesLemmas.{none_of}
+use Rattle.qx_queues.proofs.MarkLemmas.{remarked}
 use Rattle.qx_queues.proofs.PresenceLemmas.{same_queues}
 use Rattle.qx_queues.proofs.PulseLemmas.{is_at-other, is_at-self, reply-none, pulses-replied}
 use Rattle.qx_queues.proofs.queues.Queues.reply.Goals as goal
@@ -77,6 +78,7 @@ invariant_of-self c =
       length-set c.self.inside.lines.items c.number-3.result c.remove.new.line ∙ c.self.invariant.0,
       Kept-owners _ _ _ _ c.set_asked.ensures.asked.nodes (Kept-taken c.self.inside.table _ _ c.number-3.result _ _ (without c.in-Some.own.unblock) _ c.self.invariant.1 is c.remove.ensures.out (λ x at. contains_without c.in-Some.own.unblock x _ at)),
       rw shown (pulses-replied _ c.number-3.result _ within c.self.invariant.2 c.args.thread c.args.call _ c.set_asked.ensures.asked.others c.set_asked.ensures.asked.here asked gone),
+      remarked _ c.marked-self-inside.result _ c.number-3.result _ _ _ (c.number-4.ensures.number ∙ sym c.number-3.ensures.number) is c.self.invariant.3 (c.marked-self-inside.ensures.set ∙ ap (nat_lt 0) c.len.ensures) c.marked-self-inside.ensures.others,
     )
 
 pub returns-clause-replied : goal.returns-clause-replied

@@ -10,7 +10,7 @@ pub invariant_of-self : goal.invariant_of-self
 invariant_of-self c = rw c.in_err-reserve.ensures.err c.self.invariant
 
 pub invariant_of-self-2 : goal.invariant_of-self-2
-invariant_of-self-2 c = (c.self.invariant.0, Kept-room c.self.inside.table _ _ _ (ap (λ t. t.lists) c.in_ok-reserve.ensures.ok) (ap (λ t. t.values) c.in_ok-reserve.ensures.ok) c.self.invariant.1, KnowsPulses-same _ _ _ _ (shown-kept c.self.inside.table c.reserve.new.self c.self.inside.lines.items (λ line. ap (λ t. entries t line) c.in_ok-reserve.ensures.ok)) (λ thread. refl) c.self.invariant.2)
+invariant_of-self-2 c = (c.self.invariant.0, Kept-room c.self.inside.table _ _ _ (ap (λ t. t.lists) c.in_ok-reserve.ensures.ok) (ap (λ t. t.values) c.in_ok-reserve.ensures.ok) c.self.invariant.1, KnowsPulses-same _ _ _ _ (shown-kept c.self.inside.table c.reserve.new.self c.self.inside.lines.items (λ line. ap (λ t. entries t line) c.in_ok-reserve.ensures.ok)) (λ thread. refl) c.self.invariant.2, c.self.invariant.3)
 
 pub returns-clause-ok : goal.returns-clause-ok
 returns-clause-ok c =

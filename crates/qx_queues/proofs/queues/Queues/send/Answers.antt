@@ -11,6 +11,7 @@ use Rattle.qx_queues.specs.Nodes.{Message, node_of}
 use Rattle.qx_queues.specs.Waiting.{idle}
 use Rattle.qx_queues.proofs.EntryLemmas.{reads-message}
 use Rattle.qx_queues.proofs.KeptLemmas.{IsFree-own, Kept-put, calls-put, no_call-message, ranked-message, shown-put}
+use Rattle.qx_queues.proofs.MarkLemmas.{has_one, remarked}
 use Rattle.qx_queues.proofs.PresenceLemmas.{nodes-known, same_queues}
 use Rattle.qx_queues.proofs.PulseLemmas.{pulses-sent}
 use Rattle.qx_queues.proofs.queues.Queues.send.Goals as goal
@@ -37,6 +38,7 @@ invariant_of-self c =
       length-set c.self.inside.lines.items c.number.result c.put_again.new.line ∙ c.self.invariant.0,
       Kept-put c.self.inside.table _ _ c.number.result _ _ _ (Message c.args.thread) _ _ c.self.invariant.1 is has free put refl refl refl,
       rw shown (pulses-sent _ c.number.result _ within c.self.invariant.2 rank c.args.thread c.args.prio.0),
+      remarked _ c.marked-self-inside.result _ c.number.result _ _ _ (c.number-2.ensures.number ∙ sym c.number.ensures.number) is c.self.invariant.3 (c.marked-self-inside.ensures.set ∙ sym (has_one _ _ _ _ _ _ put)) c.marked-self-inside.ensures.others,
     )
 
 pub returns : goal.returns

@@ -28,6 +28,7 @@ invariant_of-self c =
       c.self.invariant.0,
       Kept-out c.self.inside.table _ _ _ _ _ kept c.take_slot.ensures.taken at there c.know.ensures.apart kept.off_lines,
       pulses-moved c.self.inside.table _ _ _ _ _ kept (Moved-out c.self.inside.table _ _ _ _ _ kept c.take_slot.ensures.taken at there c.know.ensures.apart) kept.off_lines _ c.self.invariant.2,
+      c.self.invariant.3,
     )
 
 pub returns-clause-first : goal.returns-clause-first

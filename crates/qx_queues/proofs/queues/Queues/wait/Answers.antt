@@ -34,6 +34,7 @@ invariant_of-self c =
       c.self.invariant.0,
       Kept-in table _ _ _ _ _ _ kept c.put_slot.ensures.put free off.0 carries (ap (node_of c.self.inside.nodes) names ∙ has),
       pulses-moved table _ _ _ _ _ kept (Moved-in table _ _ _ _ _ _ kept c.put_slot.ensures.put free) off.0 _ c.self.invariant.2,
+      c.self.invariant.3,
     )
 
 pub returns : goal.returns

@@ -1,4 +1,4 @@
-use Rattle.std.proofs.Common.{◌≡◌, ◌<◌, Some, true, length, option_map, map, slice_get, slice_set, sym, ◌∙◌, ap, refl, arith}
+use Rattle.std.proofs.Common.{nat_lt, ◌≡◌, ◌<◌, Some, true, length, option_map, map, slice_get, slice_set, sym, ◌∙◌, ap, refl, arith}
 use Rattle.std.proofs.lemmas.List.{length-map, length-set}
 use Rattle.std.proofs.lemmas.Option.{slice_get_read}
 use Rattle.qx_types.specs.Managers.{manager_count, manager_number}
@@ -15,6 +15,7 @@ use Rattle.qx_queues.specs.Nodes.{Message, node_of}
 use Rattle.qx_queues.specs.Waiting.{rank_of}
 use Rattle.qx_queues.proofs.EntryLemmas.{reads-message}
 use Rattle.qx_queues.proofs.KeptLemmas.{Kept-taken, calls-taken, gone-own, in_line-own, line_at-shown, message-leaves, shown-taken, stands-owned}
+use Rattle.qx_queues.proofs.MarkLemmas.{remarked}
 use Rattle.qx_queues.proofs.PresenceLemmas.{same_queues}
 use Rattle.qx_queues.proofs.PulseLemmas.{pulses-withdrawn}
 use Rattle.qx_queues.proofs.queues.Queues.withdraw.Goals as goal
@@ -41,6 +42,7 @@ invariant_of-self c =
       length-set c.self.inside.lines.items c.number.result c.remove.new.line ∙ c.self.invariant.0,
       Kept-taken c.self.inside.table _ _ c.number.result _ _ (without c.in-Some.own.message) _ c.self.invariant.1 is c.remove.ensures.out (λ x at. contains_without c.in-Some.own.message x _ at),
       rw shown (pulses-withdrawn _ c.number.result _ within c.self.invariant.2 c.args.thread),
+      remarked _ c.marked-self-inside.result _ c.number.result _ _ _ (c.number-2.ensures.number ∙ sym c.number.ensures.number) is c.self.invariant.3 (c.marked-self-inside.ensures.set ∙ ap (nat_lt 0) c.len.ensures) c.marked-self-inside.ensures.others,
     )
 
 pub returns-clause-withdrawn : goal.returns-clause-withdrawn
