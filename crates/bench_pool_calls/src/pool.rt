@@ -6,7 +6,7 @@ use crate::answers::Told;
 use crate::client::{Part, Played, drive, play};
 use crate::serving::{Counting, Yielding};
 use anyhow::{Context, bail, ensure};
-use bench_threads::{joined, named, Latencies};
+use bench_threads::{Latencies, joined, named};
 use qx_pool::{
     Event, FinishFault, OfRun, Opened, Server, ServerOf, Service, TiedService, UnderLock, finish,
     worker_loop,

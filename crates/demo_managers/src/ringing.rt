@@ -2,9 +2,9 @@ ghost use Rattle.demo_managers.specs.Bell.{bell_connect, bell_io};
 
 use crate::bell::{Bell, Bells};
 use qx_machine::{Effect, NewDup, NewOpen, Ocb, Opened, PulseWish, Wish};
-use qx_rows::{Reply, Room};
 use qx_queues::{Leaving, PipeCall};
 use qx_resmgr::{Connect, Done, Io, no_function};
+use qx_rows::{Reply, Room};
 use qx_shared::{Shared, Side};
 use qx_types::{Errno, NotifyAction, Whence};
 use qx_wire::Rest;

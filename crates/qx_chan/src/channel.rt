@@ -24,11 +24,11 @@ ghost use Rattle.qx_chan.specs.inner.Kept.{with_sent};
 use crate::call::{self, Call};
 use crate::servers;
 use crate::users::Users;
+use qx_clients::{Processes, Refusal, encoded, target_by};
 use qx_machine::{OwnItem, Queued, Sent};
 use qx_process::{Process, ThreadCell};
-use qx_rows::Room;
-use qx_clients::{encoded, target_by, Processes, Refusal};
 use qx_resources::Tables;
+use qx_rows::Room;
 use qx_shared::Shared;
 use qx_types::{
     Answer, Config, Errno, Manager, NoMemory, Outcome, Prio, Proc, Request, Thread, User,

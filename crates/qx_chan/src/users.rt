@@ -14,11 +14,11 @@ ghost use Rattle.qx_chan.specs.Channel.{failed};
 ghost use Rattle.qx_chan.specs.inner.Users.{HasPlace};
 ghost use Rattle.qx_chan.specs.Users.{no_processes, process_of, thread_row, with_process_of, with_thread_row};
 
+use qx_clients::Processes;
 use qx_hint::as_mut_unchecked;
 use qx_machine::{Over, ServerName};
 use qx_process::{LostServers, Process, ThreadCell};
 use qx_rows::{Room, places};
-use qx_clients::Processes;
 use qx_types::{Answer, Errno, Manager, Prio, Proc, Thread, User, UserLimits};
 use std::alloc::{AllocError, Global};
 use std::marker::Model;
@@ -136,7 +136,13 @@ impl Users {
 
     /// Starts a process under a number.
     #[tactic(auto, using(crate::proofs::ProcessLemmas::lends))]
-    pub fn start(&mut self, alloc: Global, proc: Proc, threads: u8, prio: Prio) -> Result<(), AllocError>
+    pub fn start(
+        &mut self,
+        alloc: Global,
+        proc: Proc,
+        threads: u8,
+        prio: Prio,
+    ) -> Result<(), AllocError>
         requires few { proc.num ≤ PROCESSES }
         requires threads { threads ≤ THREADS }
         requires priority { IsPriority prio.0 }

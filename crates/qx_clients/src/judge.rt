@@ -19,11 +19,11 @@ ghost use Rattle.qx_clients.specs.Targets.{HasRest};
 ghost use Rattle.qx_clients.specs.inner.Targets.{IsConnection};
 
 use crate::content::is_in_ranges;
+use crate::processes::Processes;
 use crate::refusal::Refusal;
 use qx_machine::{Addressed, Connection, Over, Target};
 use qx_paths::{Mounts, Path, Resolved, read_path};
 use qx_process::{Process, ThreadCell};
-use crate::processes::Processes;
 use qx_types::{Coid, Config, Errno, LimitName, Limits, Prio, Request, Thread, User};
 
 /// Where a call of a thread goes, by the mounts and the processes of its user, or the outcome of one that sends nothing:

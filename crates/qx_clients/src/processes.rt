@@ -168,7 +168,13 @@ impl Processes {
     }
 
     /// Starts a process of so many ready threads of a priority under a number.
-    pub fn start(&mut self, alloc: Global, number: u8, threads: u8, prio: Prio) -> Result<(), AllocError>
+    pub fn start(
+        &mut self,
+        alloc: Global,
+        number: u8,
+        threads: u8,
+        prio: Prio,
+    ) -> Result<(), AllocError>
         requires few { number ≤ PROCESSES }
         requires threads { threads ≤ THREADS }
         requires priority { IsPriority prio.0 }

@@ -41,8 +41,8 @@ not_so false clash = refl
 differs : {A : Type 0} (text : A → List ℕ) (rest : List A) (place : ℕ) (value : A) (word : List ℕ) → not (list_any (bytes_eq word) (map text rest)) ≡ true → slice_get rest place ≡ Some value → bytes_eq (text value) word ≡ false
 differs text rest place value word apart is = not_so _ (λ same.
     let there : list_any (bytes_eq word) (map text rest) ≡ true =
-          any_passes_from_place (bytes_eq word) (map text rest) place (text value) (slice_get-map text rest place ∙ ap (option_map text) is)
-            (ap (λ w. bytes_eq w (text value)) (sym ((bytes_eq-Decides (text value) word).0 same)) ∙ same_itself (text value)) in
+    any_passes_from_place (bytes_eq word) (map text rest) place (text value) (slice_get-map text rest place ∙ ap (option_map text) is)
+    (ap (λ w. bytes_eq w (text value)) (sym ((bytes_eq-Decides (text value) word).0 same)) ∙ same_itself (text value)) in
     ap not (sym there) ∙ apart)
 
 -- one whose text is no other's is the first of its text

@@ -26,9 +26,9 @@ gathered f zero first some none k = sym (none k (omega arith))
 gathered f (suc count) first some none k =
     let its = some 0 (omega arith) in
     before f first its.0 (flat_map (λ n. option_to_list (f n)) (range_with_len (first + 1) count)) (ap f (omega arith) ∙ its.1)
-      (gathered f count (first + 1)
-        (λ n few. let own = some (suc n) (omega (arith, few)) in (own.0, ap f (later first n) ∙ own.1))
-        (λ n many. ap f (later first n) ∙ none (suc n) (omega (arith, many)))) k
+    (gathered f count (first + 1)
+    (λ n few. let own = some (suc n) (omega (arith, few)) in (own.0, ap f (later first n) ∙ own.1))
+    (λ n many. ap f (later first n) ∙ none (suc n) (omega (arith, many)))) k
 
 -- so many stand there
 one_more : {X : Type 0} (first : Option X) (its : X) (rest : List X) (count : ℕ) → first ≡ Some its → length rest ≡ count → length (option_to_list first ++ rest) ≡ suc count
@@ -39,7 +39,7 @@ count_gathered f zero first some = refl
 count_gathered f (suc count) first some =
     let its = some 0 (omega arith) in
     one_more (f first) its.0 (flat_map (λ n. option_to_list (f n)) (range_with_len (first + 1) count)) count (ap f (omega arith) ∙ its.1)
-      (count_gathered f count (first + 1) (λ n few. let own = some (suc n) (omega (arith, few)) in (own.0, ap f (later first n) ∙ own.1)))
+    (count_gathered f count (first + 1) (λ n few. let own = some (suc n) (omega (arith, few)) in (own.0, ap f (later first n) ∙ own.1)))
 
 listed_where : (number : ℕ) (few : number < device_count) (test : Dec (number < device_count)) → device_where number test ≡ Some (record { number = number; listed = few })
 listed_where number few (yes within) = ap (λ h. Some (record { number = number; listed = h })) (le_prop within few)

@@ -9,7 +9,7 @@ use Rattle.qx_devices.specs.Row.{Row}
 -- in the order of their numbers, from 0
 unfoldable pub listed : List Row
 listed =
-  record { word = codes "latch"; read = latch.read_verdict; write = latch.write_verdict; has_input = latch.has_input; has_output = latch.has_output }
-  ∷ record { word = codes "mailbox"; read = mailbox.read_verdict; write = mailbox.write_verdict; has_input = mailbox.has_input; has_output = mailbox.has_output }
-  ∷ record { word = codes "pump"; read = pump.read_verdict; write = pump.write_verdict; has_input = pump.has_input; has_output = pump.has_output }
-  ∷ []
+    record { word = codes "latch"; read = latch.read_verdict; write = latch.write_verdict; has_input = latch.has_input; has_output = latch.has_output }
+    ∷ record { word = codes "mailbox"; read = mailbox.read_verdict; write = mailbox.write_verdict; has_input = mailbox.has_input; has_output = mailbox.has_output }
+    ∷ record { word = codes "pump"; read = pump.read_verdict; write = pump.write_verdict; has_input = pump.has_input; has_output = pump.has_output }
+    ∷ []

@@ -19,8 +19,8 @@ ghost use Rattle.qx_types.specs.declared.outcome.Answer.TheVariants.{Failed, Rep
 
 use qx_base::Told;
 use qx_machine::{Manner, Opened, Sides};
-use qx_rows::{Reply, Room};
 use qx_queues::{Leaving, PipeCall};
+use qx_rows::{Reply, Room};
 use qx_shared::{Shared, Side};
 use qx_types::{Device, Errno, Limits, User};
 

@@ -22,8 +22,8 @@ use bitflags::Flags;
 use qx_attr::Inodes;
 use qx_iofunc::Store;
 use qx_machine::{Kind, Manner, Ocb, Opened};
-use qx_rows::{Reply, Room};
 use qx_queues::PipeCall;
+use qx_rows::{Reply, Room};
 use qx_shared::Shared;
 use qx_types::{Device, Errno, Limits, OFlags, Thread, User};
 

@@ -5,8 +5,8 @@ ghost use Rattle.qx_types.specs.Step.{is_client_step};
 ghost use Rattle.qx_types.specs.declared.outcome.Outcome.{Outcome};
 ghost use Rattle.qx_pool.specs.Ends.{CallAdds, PulseAdds};
 
-use crate::server::ServerOf;
 use crate::ends::{CallEnd, PulseEnd, call_end, pulse_end};
+use crate::server::ServerOf;
 use qx_monitor::{Awaited, Coming, Spinner};
 use qx_types::{Outcome, Request, Step, Thread};
 use qx_world::{UnderLock, Unstored};

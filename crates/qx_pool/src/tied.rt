@@ -8,9 +8,9 @@ ghost use Rattle.qx_running.specs.Told.{IsPiece};
 
 use crate::client::ClientOf;
 use crate::server::ServerOf;
-use qx_tied::{Event, OfRun, Opened, Seat, Tied};
 use qx_monitor::Bells;
 use qx_running::Piece;
+use qx_tied::{Event, OfRun, Opened, Seat, Tied};
 use qx_world::World;
 use std::alloc::{AllocError, Global};
 use std::sync::Wait;

@@ -11,13 +11,13 @@ ghost use Rattle.qx_isolation.specs.Rows.{row_at, lowest_from};
 ghost use Rattle.qx_process.specs.Reads.{AwaitsReply, BringsRoom, CanAttach, CanCall, CanGo, HasNumber, HasPlace, IsPriority, Loses, LosesAll, Uses, UsesBy, bytes_received, has_own_room, is_served};
 
 use crate::connections::{self, Connections};
-use qx_rows::{places, Reply, Room};
 use crate::servers::{self, AllServers, LostServers, Sides};
 use crate::thread::{Replied, ThreadCell};
 use crate::threads::{self, Held, PLACES, Threads};
 use arrayvec::ArrayVec;
 use qx_hint::{as_mut_unchecked, assert_unchecked};
 use qx_machine::{Client, Connection, Effect, Over, Sent, ServerName};
+use qx_rows::{Reply, Room, places};
 use qx_types::{Answer, Coid, Errno, Limits, Manager, MessageBytes, Prio};
 use std::alloc::{AllocError, Global};
 use std::marker::Model;

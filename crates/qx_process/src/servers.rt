@@ -12,9 +12,9 @@ ghost use Rattle.qx_machine.specs.Servers as machine;
 ghost use Rattle.qx_process.specs.Reads.{HasPlace, named};
 
 use crate::threads;
-use qx_rows::places;
 use arrayvec::ArrayVec;
 use qx_machine::{Connection, ServerConnection, ServerName};
+use qx_rows::places;
 use qx_types::{Limits, Manager};
 use std::alloc::{AllocError, Global};
 use std::marker::Model;

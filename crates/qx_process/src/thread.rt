@@ -10,9 +10,9 @@ ghost use Rattle.qx_machine.specs.Processes.{asked_thread, new_thread, queued_th
 ghost use Rattle.qx_process.specs.Reads.{BringsRoom, IsPriority, has_own_room, is_blocked, queued_in, unanswered_in};
 ghost use Rattle.qx_process.specs.inner.States.{state_of};
 
-use qx_rows::{Reply, Room};
 use qx_hint::assert_unchecked;
 use qx_machine::{Effect, Sent};
+use qx_rows::{Reply, Room};
 use qx_types::{Answer, Errno, Manager, MessageBytes, Prio};
 use std::alloc::{AllocError, Global};
 use std::marker::Model;

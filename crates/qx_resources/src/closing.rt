@@ -15,8 +15,8 @@ ghost use Rattle.qx_resources.specs.inner.State.{AreLeft, Came};
 
 use crate::resources::Resources;
 use crate::tables::Tables;
-use qx_machine::{Client, Effect, Kind, Opened};
 use qx_clients::Processes;
+use qx_machine::{Client, Effect, Kind, Opened};
 use qx_resmgr::Done;
 use qx_types::{Coid, Errno, Manager};
 

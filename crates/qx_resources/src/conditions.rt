@@ -11,9 +11,9 @@ ghost use Rattle.qx_resources.specs.inner.Conditions.{conditions_in};
 
 use crate::resources::Resources;
 use crate::tables::Tables;
+use qx_clients::Processes;
 use qx_machine::Conditions;
 use qx_notify::{Change, Changes};
-use qx_clients::Processes;
 use qx_types::Limits;
 
 /// Both conditions hold of a file and of a directory, always.

@@ -12,9 +12,9 @@ use crate::conditions::BOTH;
 use crate::resources::Resources;
 use crate::tables::Tables;
 use qx_attr::Inodes;
+use qx_clients::Processes;
 use qx_machine::{Conditions, Opened};
 use qx_notify::{Change, Changes};
-use qx_clients::Processes;
 use qx_types::{Errno, Thread};
 use qx_wire::{Meaning, Message};
 

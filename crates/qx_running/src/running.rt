@@ -13,8 +13,9 @@ ghost use Rattle.qx_running.specs.Running.{begun, greatest_urgency, is_as_urgent
 ghost use Rattle.qx_running.specs.inner.Running.{urgency_among};
 
 use circular_buffer::HeapCircularBuffer;
-use qx_types::{cut::{bytes_of_outcome, bytes_of_step, cut_outcome, cut_step}, Manager, Outcome, Step, User, Worker};
 use qx_machine::Entry;
+use qx_types::cut::{bytes_of_outcome, bytes_of_step, cut_outcome, cut_step};
+use qx_types::{Manager, Outcome, Step, User, Worker};
 use qx_world::{PerformFault, Unstored, Work, World};
 use std::alloc::{AllocError, Global};
 use std::marker::Model;

@@ -22,8 +22,8 @@ use crate::shared::Shared;
 use crate::side::Side;
 use qx_base::{Given, Told};
 use qx_machine::{Conditions, Sides};
-use qx_rows::Reply;
 use qx_queues::{Leaving, PipeCall};
+use qx_rows::Reply;
 use qx_types::{Device, Errno, Proc, Thread, User};
 use std::alloc::AllocError;
 

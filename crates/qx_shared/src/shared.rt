@@ -14,8 +14,8 @@ ghost use Rattle.qx_shared.specs.Shared.{HasNoCall, HasThread, has_disconnect_no
 
 use crate::row::UserPipes;
 use qx_machine::{Queued, ServerName};
-use qx_rows::Room;
 use qx_queues::{Answered, Queues};
+use qx_rows::Room;
 use qx_types::{Limits, Manager, Prio, Proc, Thread};
 use std::alloc::{AllocError, Global};
 use std::marker::Model;

@@ -17,8 +17,8 @@ ghost use Rattle.qx_steps.specs.inner.Performing.{holds_of, with_one_left, Perfo
 
 use qx_chan::Channel;
 use qx_machine::{Held, OwnItem};
-use qx_rows::Reply;
 use qx_resources::AllResources;
+use qx_rows::Reply;
 use qx_types::{Proc, Thread, User};
 use qx_wire::Parsed;
 use std::alloc::AllocError;

@@ -23,8 +23,8 @@ use crate::work::{PerformFault, Work, WorkRef};
 use qx_chan::Channel;
 use qx_hint::assert_unchecked;
 use qx_machine::{Held, OwnItem, Queued};
-use qx_rows::{Reply, places};
 use qx_resources::{AllResources, NewMount};
+use qx_rows::{Reply, places};
 use qx_types::{
     Answer, Bytes, Config, Item, Manager, MessageBytes, NoMemory, Outcome, Prio, Proc, Request,
     Step, Thread, User, Worker,

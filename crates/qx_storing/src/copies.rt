@@ -6,7 +6,8 @@ ghost use Rattle.qx_machine.specs.Clients.{outcome_of};
 ghost use Rattle.qx_machine.specs.Machine as machine;
 ghost use Rattle.qx_storing.specs.inner.Copies.{AreCopies};
 
-use qx_types::{cut::cut_outcome, Answer, Outcome, Step};
+use qx_types::cut::cut_outcome;
+use qx_types::{Answer, Outcome, Step};
 use qx_world::World;
 use std::alloc::{AllocError, Global};
 

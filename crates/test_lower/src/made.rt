@@ -2,10 +2,10 @@
 
 use crate::files::CLIENT;
 use qx_attr::Inodes;
+use qx_clients::Processes;
 use qx_lists::Table;
 use qx_machine::{Attribute, Kind};
 use qx_paths::{Mount, Mounts, read_path};
-use qx_clients::Processes;
 use qx_types::{
     Answer, Bytes, Config, LimitName, Limits, Manager, MessageBytes, NoMemory, OFlags, OutOfRange,
     Outcome, Prio, User, UserLimits,
@@ -212,7 +212,10 @@ fn mounted(alloc: Global) -> Result<bool, NoMemory> {
 }
 
 fn spawned(alloc: Global) -> Result<bool, NoMemory> {
-    Ok(Processes::new(alloc)?.spawn(alloc, &UserLimits::default(), 2, Prio(10))? == Outcome::Spawned(1))
+    Ok(
+        Processes::new(alloc)?.spawn(alloc, &UserLimits::default(), 2, Prio(10))?
+            == Outcome::Spawned(1),
+    )
 }
 
 /// A file of user 1.

@@ -1,9 +1,9 @@
 //! Things that are made, with memory and while each request for it is refused in turn.
 
 use crate::made::{THINGS, Thing, is_made};
-use test_all_memory::{at_last, take_all_memory};
 use std::alloc::{AllocError, Global};
 use std::test::Fail;
+use test_all_memory::{at_last, take_all_memory};
 
 #[test]
 fn all_is_made_with_memory(rt: HostRuntime) -> Result<(), Fail> {

@@ -3,11 +3,11 @@
 ghost use Rattle.std.specs.Prelude.{◌<◌, IfOk, OnOk};
 ghost use Rattle.qx_queues.specs.Queues.{HasThreadNodes};
 
-use test_all_memory::take_all_memory;
 use qx_machine::ServerName;
 use qx_queues::Queues;
 use qx_types::{Manager, Prio, Proc, Thread, User};
 use std::alloc::{AllocError, Global};
+use test_all_memory::take_all_memory;
 
 /// The queues of one user, with the nodes of the first thread of the user's first process.
 fn with_thread(alloc: Global, thread: Thread) -> Result<Queues, AllocError>

@@ -1,12 +1,11 @@
 //! The null manager, which is not the machine's, served as those are: nothing is ever read from it, and what is written to
 //! it is gone.
 
-use test_all_memory::take_all_memory;
 use demo_managers::{Kept, Null, Told};
 use qx_machine::{Caller, Client, Context, Effect, Over, ServerName, Target};
 use qx_notify::AllEvents;
-use qx_rows::{Reply, Room};
 use qx_resmgr::{Done, serve};
+use qx_rows::{Reply, Room};
 use qx_types::{
     Coid, Conds, Errno, Manager, NoMemory, NotifyAction, OFlags, Prio, PulseValue, User,
 };
@@ -15,6 +14,7 @@ use std::alloc::{AllocError, Global};
 use std::marker::Model;
 use std::process::Abort;
 use std::test::Fail;
+use test_all_memory::take_all_memory;
 
 const THREE: Coid = Coid(3);
 

@@ -4,13 +4,13 @@ ghost use Rattle.std.specs.Prelude.{◌≡◌, ◌<◌, IfOk, IsSome};
 ghost use Rattle.qx_types.specs.declared.limits.TheConstants.Limits.{CALLS};
 ghost use Rattle.qx_machine.specs.Performing.{taken_in};
 
-use test_all_memory::take_all_memory;
 use qx_machine::{Over, Sent, Target};
 use qx_process::ThreadCell;
 use qx_rows::Reply;
 use qx_types::{Answer, Coid, Errno, Limits, Manager, MessageBytes, Prio};
 use std::alloc::{AllocError, Global};
 use std::test::Fail;
+use test_all_memory::take_all_memory;
 
 /// A message with no bytes, over connection 3.
 fn sent(alloc: Global) -> Sent

@@ -4,12 +4,12 @@ use crate::reads::{RECEIVE, held};
 use crate::rows::ROWS;
 use crate::same::{is_same, is_same_so_far};
 use crate::script::{booted, ran, steps, store, store_all};
-use test_all_memory::{at_last, take_all_memory};
 use qx_machine::Entry;
 use qx_types::{NoMemory, Outcome, Step, User};
 use qx_world::{Traced, Work};
 use std::alloc::{AllocError, Global};
 use std::process::Abort;
+use test_all_memory::{at_last, take_all_memory};
 
 /// How the steps of a run are refused memory.
 #[derive(Clone, Copy, PartialEq, Eq)]

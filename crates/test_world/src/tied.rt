@@ -3,13 +3,13 @@
 ghost use Rattle.std.specs.Prelude.{◌≡◌};
 
 use crate::script::{config, steps};
-use test_all_memory::{at_last, take_all_memory};
 use qx_tied::{Event, OfRun, Opened, Seat, Tied};
 use qx_types::{NoMemory, Step};
 use qx_world::World;
 use std::alloc::Global;
 use std::marker::Brand;
 use std::process::Abort;
+use test_all_memory::{at_last, take_all_memory};
 
 /// A process opens its user's top, and closes it.
 const OPENED: &str = "\

@@ -8,7 +8,6 @@ use crate::pool::runs::{run, thread};
 use crate::pool::servers::BOTH;
 use crate::same::is_same;
 use crate::script::{self, config, ran, steps};
-use test_all_memory::{at_last, take_all_memory};
 use qx_pool::{CallEnd, Client, Seat, Server, finish, worker_loop};
 use qx_types::{Bytes, Config, NoMemory, Request, Step, User, Worker};
 use std::alloc::{AllocError, Global};
@@ -17,6 +16,7 @@ use std::process::Abort;
 use std::sync::Wait;
 use std::sync::atomic::AtomicU64;
 use std::sync::ledger::{Blank, Ledger};
+use test_all_memory::{at_last, take_all_memory};
 
 /// A file, its bytes, a reply of more than 40 of them, and a directory.
 const ANN: &str = "\
