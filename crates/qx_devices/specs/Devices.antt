@@ -1,5 +1,5 @@
 -- Devices by their numbers, and what a call to one comes to.
-use Rattle.std.specs.Prelude.{ℕ, ◌<◌, List, [], ◌∷◌, Bool, Option, Some, None, get_or}
+use Rattle.std.specs.Prelude.{ℕ, ◌<◌, List, Bool, Option, Some, None, get_or}
 use Rattle.std.specs.List.{find, flat_map, range_with_len}
 use Rattle.std.specs.Str.{bytes_eq}
 use Rattle.std.specs.Option.{option_to_list}

@@ -6,7 +6,7 @@
 //! `uncounted.rt`.
 //!
 //! What contracts see of a line is `Line.antt`, and of its marks `Marks.antt`. A caller uses the ruleset `line_facts`
-//! (`proofs/LineFacts.antt`), which holds `table_facts` of `qx_lists`, as `put_and_remove` in `times`. Of what it speaks
+//! (`proofs/LineFacts.antt`), which holds `table_facts` of `qx_lists`, as `put_and_remove` in `bench_times`. Of what it speaks
 //! these stay closed to the prover: `AreApart`, which `list_once` opens, `AreRanked`, which `ranked_at` opens and
 //! `ranked_from` closes, and `AreMarked`, likewise by `marked_at` and `marked_from`.
 #![tactic(auto)]

@@ -170,19 +170,13 @@ fn waiting(world: &World) -> u128
     ensures few { result < 2 ^ 127 }
 {
     let mut waiting = 0;
-    'lines: for number in 0..Manager::count() {
-        waiting += waiting_at(world, number) as u128;
+    let mut number = 0;
+    'lines: for _ in 0..Manager::count() {
+        let Some(manager) = world.next_from(number) else {
+            return waiting;
+        };
+        waiting += world.waiting(manager) as u128;
+        number = manager.number() + 1;
     }
     waiting
-}
-
-/// How many items wait in the line under a number.
-fn waiting_at(world: &World, number: usize) -> usize
-    requires { length world.now.lines ≡ manager_count }
-    ensures { result ≡ length (line_at world.now.lines number) }
-{
-    match Manager::of_number(number) {
-        Some(manager) => world.waiting(manager),
-        None => 0,
-    }
 }

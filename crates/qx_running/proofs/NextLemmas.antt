@@ -1,8 +1,9 @@
 -- Managers one by one, and whether one of them is next.
-use Rattle.std.proofs.Common.{◌≡◌, ◌∙◌, ◌∷◌, ◌++◌, ◌+◌, ◌<◌, ◌≤◌, ◌||◌, [], List, ℕ, zero, suc, Bool, true, false, Option, Some, None, cond, length, drop, take, max, find, is_some, slice_get, option_map, option_to_list, nat_lt, refl, ap, ap₂, sym, inl, inr, arith, length-take, take-append-drop, lt-ltb, eq-eqb, ne_eqb}
+use Rattle.std.proofs.Common.{◌≡◌, ◌∙◌, ◌∷◌, ◌++◌, ◌+◌, ◌<◌, ◌≤◌, ◌||◌, ◌&&◌, ◌==◌, [], List, ℕ, zero, suc, Bool, true, false, Option, Some, None, cond, length, drop, take, max, find, is_some, slice_get, option_map, option_to_list, nat_lt, refl, ap, ap₂, sym, inl, inr, arith, length-take, take-append-drop, lt-ltb, eq-eqb, ne_eqb}
 use Rattle.std.specs.List.{list_any}
 use Rattle.std.specs.Option.{option_or}
 use Rattle.std.proofs.lemmas.Bool.{cases_eq, cases_lt}
+use Rattle.std.proofs.lemmas.Bool.Decides.{nat_tests}
 use Rattle.std.proofs.lemmas.List.{drop_all, take_all}
 use Rattle.qx_types.proofs.Managers.{count_managers}
 use Rattle.std.proofs.lemmas.List.Folds.{find-append, list_any-append}
@@ -13,30 +14,22 @@ use Rattle.qx_machine.specs.Machine.{World, line_of}
 use Rattle.qx_machine.specs.Reads as reads
 use Rattle.qx_machine.specs.Reads.{has_item}
 use Rattle.qx_running.specs.Running.{greatest_urgency, is_as_urgent, next_manager, urgency, urgency_of}
-use Rattle.qx_running.specs.inner.Running.{urgency_among}
 
--- ---- one manager after the other
+-- ---- managers whose lines are empty tell nothing
 
--- of the managers from a number on the first one apart
-pub greatest_more : (w : World) (some : List Manager) (n : ℕ) → greatest_urgency w (drop n some) ≡ max (urgency_among w (slice_get some n)) (greatest_urgency w (drop (suc n) some))
-greatest_more w [] zero = refl
-greatest_more w [] (suc n) = refl
-greatest_more w (manager ∷ some) zero = refl
-greatest_more w (manager ∷ some) (suc n) = greatest_more w some n
+not_urgent : (line : List Queued) → nat_lt 0 (length line) ≡ false → urgency_of (option_map (λ first. first.prio) (slice_get line 0)) ≡ 0
+not_urgent [] none = refl
+not_urgent (first ∷ line) none = let clash : true ≡ false = sym (lt-ltb 0 (suc (length line)) (omega arith)) ∙ none in absurd (cc)
 
-first_apart : {A : Type 0} (here : Bool) (x : A) (later : Option A) → cond here (Some x) later ≡ option_or (cond here (Some x) None) later
-first_apart true x later = refl
-first_apart false x later = refl
+pub empty_urges : (w : World) (manager : Manager) (some : List Manager) → has_item w manager ≡ false → greatest_urgency w (manager ∷ some) ≡ greatest_urgency w some
+empty_urges w manager some none = ap (λ own. max own (greatest_urgency w some)) (not_urgent (line_of w manager) none) ∙ (omega arith)
 
-pub find_more : {A : Type 0} (p : A → Bool) (some : List A) (n to : ℕ) → n < to → find p (drop n (take to some)) ≡ option_or (find p (option_to_list (slice_get some n))) (find p (drop (suc n) (take to some)))
-find_more p some n zero lt = absurd (omega (arith, lt))
-find_more p [] zero (suc to) lt = refl
-find_more p [] (suc n) (suc to) lt = refl
-find_more p (x ∷ some) zero (suc to) lt = first_apart (p x) x (find p (take to some))
-find_more p (x ∷ some) (suc n) (suc to) lt = find_more p some n to (omega (arith, lt))
-
-pub find_done : {A : Type 0} (p : A → Bool) (some : List A) (n to : ℕ) → to ≤ n → find p (drop n (take to some)) ≡ None
-find_done p some n to le = let len = length-take to some in ap (find p) (drop_all n (take to some) (omega (arith, le, len)))
+pub empty_found : (w : World) (most : ℕ) (manager : Manager) (some : List Manager) → has_item w manager ≡ false → find (is_as_urgent w most) (manager ∷ some) ≡ find (is_as_urgent w most) some
+empty_found w most manager some none = ap (λ test. cond test (Some manager) (find (is_as_urgent w most) some)) (ap (λ own. nat_lt 0 most && (own == most)) (not_urgent (line_of w manager) none) ∙ never most)
+  where
+    never : (most : ℕ) → (nat_lt 0 most && (0 == most)) ≡ false
+    never zero = refl
+    never (suc most) = grind (arith, nat_tests)
 
 -- ---- whether there is one
 
@@ -105,17 +98,18 @@ find_turned p turn some = find-append p (drop turn some) (take turn some)
 
 -- ---- the next manager, found in two parts
 
-whole : (to : ℕ) → to ≡ manager_count → take to managers ≡ managers
-whole to is = let all = count_managers in take_all to managers (omega (arith, all, is))
-
-pub next_behind : (w : World) (most turn now to : ℕ) (manager : Manager) → to ≡ manager_count → most ≡ greatest_urgency w managers → turn ≡ now → Some manager ≡ find (is_as_urgent w most) (drop turn (take to managers)) → Some manager ≡ next_manager w now
-next_behind w most turn now to manager count is same here =
+pub next_behind : (w : World) (most turn now : ℕ) (manager : Manager) → most ≡ greatest_urgency w managers → turn ≡ now → Some manager ≡ find (is_as_urgent w most) (drop turn managers) → Some manager ≡ next_manager w now
+next_behind w most turn now manager is same here =
     let p = is_as_urgent w most in
-    let there = here ∙ ap (λ all. find p (drop turn all)) (whole to count) in
-    ap (λ o. option_or o (find p (take turn managers))) there ∙ sym (find_turned p turn managers) ∙ ap₂ (λ m t. find (is_as_urgent w m) (drop t managers ++ take t managers)) is same
+    ap (λ o. option_or o (find p (take turn managers))) here ∙ sym (find_turned p turn managers) ∙ ap₂ (λ m t. find (is_as_urgent w m) (drop t managers ++ take t managers)) is same
 
-pub next_before : (w : World) (most turn now to : ℕ) (result : Option Manager) → to ≡ manager_count → most ≡ greatest_urgency w managers → turn ≡ now → None ≡ find (is_as_urgent w most) (drop turn (take to managers)) → result ≡ find (is_as_urgent w most) (drop 0 (take turn managers)) → result ≡ next_manager w now
-next_before w most turn now to result count is same here later =
+-- none is behind: the first of all is before
+pub next_before : (w : World) (most turn now : ℕ) (result : Option Manager) → most ≡ greatest_urgency w managers → turn ≡ now → None ≡ find (is_as_urgent w most) (drop turn managers) → result ≡ find (is_as_urgent w most) (drop 0 managers) → result ≡ next_manager w now
+next_before w most turn now result is same here later =
     let p = is_as_urgent w most in
-    let there = here ∙ ap (λ all. find p (drop turn all)) (whole to count) in
-    later ∙ ap (λ o. option_or o (find p (take turn managers))) there ∙ sym (find_turned p turn managers) ∙ ap₂ (λ m t. find (is_as_urgent w m) (drop t managers ++ take t managers)) is same
+    later ∙ ap (find p) (sym (take-append-drop turn managers)) ∙ find-append p (take turn managers) (drop turn managers) ∙ ap (option_or (find p (take turn managers))) (sym here) ∙ or_none (find p (take turn managers))
+    ∙ ap (λ o. option_or o (find p (take turn managers))) here ∙ sym (find_turned p turn managers) ∙ ap₂ (λ m t. find (is_as_urgent w m) (drop t managers ++ take t managers)) is same
+  where
+    or_none : {A : Type 0} (found : Option A) → option_or found None ≡ found
+    or_none None = refl
+    or_none (Some x) = refl

@@ -10,7 +10,6 @@ ghost use Rattle.qx_machine.specs.Wants.{wants_memory};
 ghost use Rattle.qx_world.specs.Steps.{held_work, IsStale, PerformFault};
 ghost use Rattle.qx_types.specs.Cut.{bytes_of_outcome, bytes_of_step, cut_outcome, cut_step};
 ghost use Rattle.qx_running.specs.Running.{begun, greatest_urgency, is_as_urgent, next, next_manager, oldest, turn_after, CameBy, IsOfRun};
-ghost use Rattle.qx_running.specs.inner.Running.{urgency_among};
 
 use circular_buffer::HeapCircularBuffer;
 use qx_machine::Entry;
@@ -180,9 +179,9 @@ impl Running {
         ensures some { is_some result ≡ is_some (reads.next_manager self.now.world) }
     {
         let most = self.greatest_urgency();
-        match self.first_urgent(self.turn, Manager::count(), most) {
+        match self.first_urgent(self.turn, most) {
             Some(manager) => Some(manager),
-            None => self.first_urgent(0, self.turn, most),
+            None => self.first_urgent(0, most),
         }
     }
 
@@ -191,44 +190,38 @@ impl Running {
         ensures { result ≡ greatest_urgency self.now.world managers }
     {
         let mut most = 0u16;
-        'managers: for number in 0..Manager::count() {
-            most = most.max(self.urgency(number));
+        let mut number = 0;
+        'managers: for _ in 0..Manager::count() {
+            let Some(manager) = self.world.next_from(number) else {
+                return most;
+            };
+            most = most.max(self.urgency(manager));
+            number = manager.number() + 1;
         }
         most
     }
 
-    /// How urgent the line of the manager of a number is; 0 where there is no such manager.
-    fn urgency(&self, number: usize) -> u16
-        ensures { result ≡ urgency_among self.now.world (slice_get managers number) }
+    /// How urgent the line of a manager is.
+    fn urgency(&self, manager: Manager) -> u16
+        ensures { result ≡ urgency self.now.world manager }
     {
-        let Some(manager) = Manager::of_number(number) else {
-            return 0;
-        };
         match self.world.first_prio(manager) {
             Some(prio) => prio.0 as u16 + 1,
             None => 0,
         }
     }
 
-    /// Of the managers of some numbers the first one whose line is so urgent.
-    fn first_urgent(&self, from: usize, to: usize, most: u16) -> Option<Manager>
-        ensures { result ≡ find (is_as_urgent self.now.world most) (drop from (take to managers)) }
+    /// The first manager, by number and from one on, whose line is so urgent.
+    fn first_urgent(&self, from: usize, most: u16) -> Option<Manager>
+        ensures { result ≡ find (is_as_urgent self.now.world most) (drop from managers) }
     {
-        'managers: for number in from..to {
-            if let Some(manager) = self.urgent(number, most) {
+        let mut number = from;
+        'managers: for _ in 0..Manager::count() {
+            let manager = self.world.next_from(number)?;
+            if most > 0 && self.urgency(manager) == most {
                 return Some(manager);
             }
-        }
-        None
-    }
-
-    /// The manager of a number, if its line is so urgent.
-    fn urgent(&self, number: usize, most: u16) -> Option<Manager>
-        ensures { result ≡ find (is_as_urgent self.now.world most) (option_to_list (slice_get managers number)) }
-    {
-        let manager = Manager::of_number(number)?;
-        if most > 0 && self.urgency(number) == most {
-            return Some(manager);
+            number = manager.number() + 1;
         }
         None
     }

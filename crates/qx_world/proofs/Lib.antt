@@ -6,3 +6,5 @@ mod TraceLemmas
 pub mod OutcomeLemmas
 -- what a worker does at a seat
 pub mod WorkLemmas
+-- what is told of all managers, where those whose lines are empty are passed over
+pub mod NextLemmas
