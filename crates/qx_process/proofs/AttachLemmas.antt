@@ -16,7 +16,7 @@ use Rattle.qx_isolation.specs.Lines.{line_at, with_line}
 use Rattle.qx_machine.specs.Processes.{Process, no_sides, servers_at}
 use Rattle.qx_isolation.specs.Rows.{put_row, row_at}
 use Rattle.qx_machine.specs.Servers.{Servers, connects, no_servers, in_use, is_attached, lost_by, servers_from, servers_while, sides_with}
-use Rattle.qx_process.specs.Reads.{HasPlace, Loses, Uses, is_at, is_served}
+use Rattle.qx_process.specs.Reads.{Loses, Uses, is_at, is_served}
 use Rattle.qx_types.proofs.Managers.{at_one, number_below}
 use Rattle.qx_rows.proofs.RowLemmas.{row_at-get_or}
 use Rattle.qx_process.proofs.ServerLemmas.{any_put, any_put_same, any_set_fewer, any_set_more, any_set_same, differs_by, line_at-here, line_at-other, servers_from_again, servers_from_at, served_while, some-while}

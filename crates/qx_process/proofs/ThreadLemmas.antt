@@ -1,5 +1,5 @@
 -- A thread's row, as it is changed or left.
-use Rattle.std.proofs.Common.{◌≡◌, ℕ, Option, Some, None, refl, ap}
+use Rattle.std.proofs.Common.{◌≡◌, ℕ, Some, None, refl, ap}
 use Rattle.qx_machine.specs.declared.rows.ThreadRow.{ThreadRow}
 use Rattle.qx_machine.specs.Processes.{Process, with_thread}
 use Rattle.qx_isolation.specs.Rows.{row_at}

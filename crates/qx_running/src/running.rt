@@ -1,6 +1,6 @@
 //! A world that runs on with no list of its steps, and a recorder of the last ones.
 
-ghost use Rattle.std.specs.Prelude.{◌≡◌, ◌≢◌, ◌-◌, ◌++◌, ◌∷◌, ◌↔◌, [], List, Err, IfErr, IfOk, IsErrOf, IsFalse, IsOk, OnErr, OnOk, drop, find, is_some, max, option_to_list, slice_get, take};
+ghost use Rattle.std.specs.Prelude.{◌≡◌, ◌≢◌, ◌-◌, ◌++◌, ◌∷◌, ◌↔◌, [], List, Err, IfErr, IfOk, IsErrOf, IsFalse, IsOk, OnErr, OnOk, drop, find, is_some, max, take};
 ghost use Rattle.circular_buffer.specs.Buffer.{buffer, keep_last};
 ghost use Rattle.qx_types.specs.Managers.{managers};
 ghost use Rattle.qx_types.specs.declared.step.Step.{Step};
@@ -9,7 +9,7 @@ ghost use Rattle.qx_machine.specs.Reads as reads;
 ghost use Rattle.qx_machine.specs.Wants.{wants_memory};
 ghost use Rattle.qx_world.specs.Steps.{held_work, IsStale, PerformFault};
 ghost use Rattle.qx_types.specs.Cut.{bytes_of_outcome, bytes_of_step, cut_outcome, cut_step};
-ghost use Rattle.qx_running.specs.Running.{begun, greatest_urgency, is_as_urgent, next, next_manager, oldest, turn_after, CameBy, IsOfRun};
+ghost use Rattle.qx_running.specs.Running.{begun, greatest_urgency, is_as_urgent, next, next_manager, oldest, turn_after, urgency, CameBy, IsOfRun};
 
 use circular_buffer::HeapCircularBuffer;
 use qx_machine::Entry;

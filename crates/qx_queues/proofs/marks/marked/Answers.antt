@@ -1,4 +1,4 @@
-use Rattle.std.proofs.Common.{◌==◌, ◌<◌, ◌∙◌, ap, arith, sym}
+use Rattle.std.proofs.Common.{◌==◌, ◌∙◌, ap, arith, sym}
 use Rattle.std.specs.Int.{w64}
 use Rattle.std.proofs.lemmas.Nat.Bits.{bit_at_set_same, bit_at_set_other, bit_at_clear_same, bit_at_clear_other}
 use Rattle.qx_queues.specs.inner.Marks.{is_marked}

@@ -1,4 +1,3 @@
-use Rattle.std.proofs.Common.{sym, ap, length, ◌∙◌}
 use Rattle.std.proofs.lemmas.List.{length-replicate}
 use Rattle.qx_types.specs.Managers.{manager_count}
 use Rattle.qx_machine.specs.Servers.{no_servers}
