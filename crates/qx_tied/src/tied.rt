@@ -11,6 +11,7 @@ ghost use Rattle.qx_tied.specs.Tied.{done_at, entry, own_from};
 ghost use Rattle.qx_tied.specs.Run.{IsRunFrom, next};
 
 use crate::event::{Event, Tagged};
+use crate::front::{Front, Opened};
 use crate::seat::{OfRun, Seat};
 use crate::ties::Ties;
 use crossbeam_utils::CachePadded;
