@@ -1,7 +1,7 @@
 //! A run of a server with a thread for each of some texts, and what came of it.
 
-use crate::pool::acts::{Act, Signals, read};
-use crate::pool::servers::{On, serve, serve_on};
+use crate::acts::{Act, Signals, read};
+use crate::servers::{On, serve, serve_on};
 use qx_play::text::{push_outcome, push_transcript};
 use qx_pool::{CallEnd, ClientOf, Note, Seat, ServerOf, UnderLock, worker_loop};
 use qx_script::{Script, parse};
@@ -62,8 +62,8 @@ pub(crate) enum Wanted {
     Answered(User),
     /// It waits for an answer.
     Blocked(User),
-    /// So many items stand in a manager's line.
-    Waiting(Manager, usize),
+    /// So many items stand in the lines of the RAM manager and of the pipe manager.
+    Waiting { ram: usize, pipe: usize },
 }
 
 /// A thread of a user's first process.
@@ -281,7 +281,9 @@ impl Ran {
             },
             Wanted::Answered(user) => world.answered(thread(*user, 1)),
             Wanted::Blocked(user) => world.blocked(thread(*user, 1)),
-            Wanted::Waiting(manager, count) => world.waiting(*manager) == *count,
+            Wanted::Waiting { ram, pipe } => {
+                world.waiting(Manager::Ram) == *ram && world.waiting(Manager::Pipe) == *pipe
+            }
         })
     }
 }

@@ -4,19 +4,19 @@ use qx_types::{Manager, NoMemory, Proc, Thread, User, Worker};
 use qx_world::{Traced, WorkRef, World};
 
 /// The first thread of a user's first process.
-pub(crate) fn first_thread(user: User) -> Thread {
+pub fn first_thread(user: User) -> Thread {
     let proc = Proc { user, num: 1 };
     Thread { proc, tid: 1 }
 }
 
 /// Whether as many steps are stored, and what each worker holds, which threads are answered and blocked, and how many items
 /// wait in each line are the same. To look wants no memory.
-pub(crate) fn is_same_so_far(one: &Traced, other: &Traced) -> bool {
+pub fn is_same_so_far(one: &Traced, other: &Traced) -> bool {
     one.entries().len() == other.entries().len() && is_same_world(one.world(), other.world())
 }
 
 /// Whether that, the stored steps with their outcomes, and each user's transcript are the same.
-pub(crate) fn is_same(one: &Traced, other: &Traced) -> Result<bool, NoMemory> {
+pub fn is_same(one: &Traced, other: &Traced) -> Result<bool, NoMemory> {
     Ok(
         one.entries() == other.entries()
             && is_same_world(one.world(), other.world())
@@ -26,7 +26,7 @@ pub(crate) fn is_same(one: &Traced, other: &Traced) -> Result<bool, NoMemory> {
 }
 
 /// Whether what each worker holds, which threads are answered and blocked, and how many items wait in each line are the same.
-pub(crate) fn is_same_world(one: &World, other: &World) -> bool {
+pub fn is_same_world(one: &World, other: &World) -> bool {
     has_same_worker(one, other, Worker(1))
         && has_same_worker(one, other, Worker(2))
         && (0..128).all(|number| has_same_thread(one, other, thread(number)))

@@ -2,9 +2,8 @@
 
 ghost use Rattle.std.specs.Prelude.{◌≡◌, ◌+◌};
 
-use crate::pool::acts::Signals;
-use crate::pool::runs::{Ran, Role, play_all};
-use crate::same::is_same_world;
+use crate::acts::Signals;
+use crate::runs::{Ran, Role, play_all};
 use qx_machine::Entry;
 use qx_pool::{FinishFault, Seat, Server, Service, finish};
 use qx_running::KEPT;
@@ -14,6 +13,7 @@ use std::alloc::Global;
 use std::sync::Wait;
 use std::sync::ledger::{Blank, Ledger};
 use std::thread::Threads;
+use test_steps::same::is_same_world;
 
 /// Which server it is.
 #[derive(Clone, Copy, Debug, PartialEq, Eq)]

@@ -1,21 +1,21 @@
 //! What a service does that a server whose steps are stored is not made for: it goes on in another one, with what a worker held;
 //! and clients that wait for pulses.
 
-use crate::pool::acts::Signals;
-use crate::pool::runs::thread;
-use crate::script::{config, steps};
+use crate::acts::Signals;
+use crate::runs::thread;
 use qx_pool::{PulseEnd, Service, ServiceClient, worker_loop};
-use qx_types::{Manager, NoMemory, Outcome, Proc, Request, Step, Thread, User, Worker};
+use qx_types::{Manager, Outcome, Proc, Request, Step, Thread, User, Worker};
 use qx_world::World;
 use std::alloc::Global;
 use std::process::Abort;
 use std::sync::Wait;
 use std::sync::atomic::AtomicU64;
 use std::thread::{Threads, scope, scope_env};
+use test_steps::script::{LinesFault, config, steps};
 
 /// A service at boot.
-fn service(rt: &impl Abort, alloc: Global) -> Result<Service, NoMemory> {
-    let world = World::new(alloc, config(rt, alloc)?)?;
+fn service(rt: &impl Abort, alloc: Global) -> Result<Service, LinesFault> {
+    let world = World::new(alloc, config(alloc)?)?;
     Ok(on(rt, alloc, world))
 }
 
@@ -44,9 +44,9 @@ fn take_all(rt: &impl Wait, service: &Service, taken: Vec<Step>) -> bool {
 }
 
 /// The requests of calls.
-fn requests(rt: &impl Abort, alloc: Global, calls: &str) -> Result<Vec<Request>, NoMemory> {
+fn requests(rt: &impl Abort, alloc: Global, calls: &str) -> Result<Vec<Request>, LinesFault> {
     let mut requests = Vec::new(alloc);
-    for step in &steps(rt, alloc, calls)? {
+    for step in &steps(alloc, calls)? {
         match step {
             Step::Call { request, .. } => requests.push(request.clone()?)?,
             _ => panic!(rt; "a line that is no call"),
@@ -58,11 +58,11 @@ fn requests(rt: &impl Abort, alloc: Global, calls: &str) -> Result<Vec<Request>,
 /// A worker holds a message as its service ends. The loop of that worker at the next one answers it, and then what stands in the
 /// line, though the service was stopped before.
 #[test]
-fn goes_on_with_what_is_held(rt: HostRuntime) -> Result<(), NoMemory> {
+fn goes_on_with_what_is_held(rt: HostRuntime) -> Result<(), LinesFault> {
     let alloc = rt.alloc();
     let first = service(&rt, alloc)?;
     let calls = "spawn ann 2 10\nopen ann.1.1 /ann r 000\nopen ann.1.2 /ann r 000\n";
-    assert!(rt; take_all(&rt, &first, steps(&rt, alloc, calls)?));
+    assert!(rt; take_all(&rt, &first, steps(alloc, calls)?));
     let mut world = first.into_world();
     let taken = world.receive(Worker(1), Manager::Ram);
     assert!(rt; matches!(taken, Outcome::Took(_)));
@@ -106,13 +106,13 @@ fn wake_thrice<R: Wait + Abort>(
     alloc: Global,
     service: &Service,
     signals: &Signals,
-) -> Result<(), NoMemory> {
+) -> Result<(), LinesFault> {
     let mut client = ServiceClient::new((), thread(User(1), 2));
     for request in requests(rt, alloc, TOLD)? {
         client.call(rt, service, request);
     }
     signals.wait_for(rt, 1);
-    take_all(rt, service, steps(rt, alloc, "exit ann.1\n")?);
+    take_all(rt, service, steps(alloc, "exit ann.1\n")?);
     signals.wait_for(rt, 2);
     Ok(())
 }
@@ -123,11 +123,11 @@ fn ends_of<R: Threads + Wait + Abort + Sync>(
     alloc: Global,
     service: &Service,
     signals: &Signals,
-) -> Result<[PulseEnd; 3], NoMemory> {
+) -> Result<[PulseEnd; 3], LinesFault> {
     scope(
         scope_env(),
         rt,
-        |scope| -> Result<[PulseEnd; 3], NoMemory> {
+        |scope| -> Result<[PulseEnd; 3], LinesFault> {
             let work = move || worker_loop(rt, service, (), Worker(1), signals, signals);
             let working = scope.spawn(work);
             let waiting = scope.spawn(move || wait_thrice(rt, service, signals));
@@ -139,16 +139,16 @@ fn ends_of<R: Threads + Wait + Abort + Sync>(
                     woken?;
                     Ok(waiting.join(rt))
                 }
-                _ => Err(NoMemory),
+                _ => Err(LinesFault::NoMemory),
             }
         },
     )
 }
 
 #[test]
-fn waits_for_pulses(rt: HostRuntime) -> Result<(), NoMemory> {
+fn waits_for_pulses(rt: HostRuntime) -> Result<(), LinesFault> {
     let service = service(&rt, rt.alloc())?;
-    assert!(rt; take_all(&rt, &service, steps(&rt, rt.alloc(), TWO)?));
+    assert!(rt; take_all(&rt, &service, steps(rt.alloc(), TWO)?));
     let signals = signals();
     let ends = ends_of(&rt, rt.alloc(), &service, &signals)?;
     assert!(rt; !signals.have_failed());

@@ -1,8 +1,8 @@
 //! Runs of both servers: what each thread does, line by line, and what is seen at the end.
 
-use crate::pool::runs::{Wanted, run};
-use crate::pool::servers::BOTH;
-use qx_types::{Item, Manager, NoMemory, Proc, Thread, User};
+use crate::runs::{Wanted, run};
+use crate::servers::BOTH;
+use qx_types::{Item, NoMemory, Proc, Thread, User};
 
 /// A run with a thread for each client and each worker.
 struct Row {
@@ -221,7 +221,7 @@ const ROWS: [Row; 15] = [
         wanted: &[
             Wanted::Ended(1, "[Stopped]"),
             Wanted::Blocked(ANN),
-            Wanted::Waiting(Manager::Ram, 1),
+            Wanted::Waiting { ram: 1, pipe: 0 },
         ],
     },
     Row {
@@ -245,8 +245,7 @@ const ROWS: [Row; 15] = [
             Wanted::Ended(2, "[Stopped]"),
             Wanted::Answered(ANN),
             Wanted::Answered(User(2)),
-            Wanted::Waiting(Manager::Ram, 0),
-            Wanted::Waiting(Manager::Pipe, 0),
+            Wanted::Waiting { ram: 0, pipe: 0 },
         ],
     },
     Row {
@@ -294,10 +293,7 @@ const ROWS: [Row; 15] = [
             await 2",
         ],
         workers: &["work 1", "work 2"],
-        wanted: &[
-            Wanted::Waiting(Manager::Ram, 0),
-            Wanted::Waiting(Manager::Pipe, 0),
-        ],
+        wanted: &[Wanted::Waiting { ram: 0, pipe: 0 }],
     },
     Row {
         name: "the loop of a worker that is none ends before anybody calls",

@@ -3,20 +3,20 @@
 
 ghost use Rattle.std.specs.Prelude.{◌≡◌, ◌+◌};
 
-use crate::pool::acts::Signals;
-use crate::pool::runs::{run, thread};
-use crate::pool::servers::BOTH;
-use crate::same::is_same;
-use crate::script::{self, config, ran, steps};
-use test_all_memory::{at_last, take_all_memory};
+use crate::acts::Signals;
+use crate::runs::{run, thread};
+use crate::servers::BOTH;
 use qx_pool::{CallEnd, Client, Seat, Server, finish, worker_loop};
-use qx_types::{Bytes, Config, NoMemory, Request, Step, User, Worker};
+use qx_types::{Bytes, Config, Request, Step, User, Worker};
 use std::alloc::{AllocError, Global};
 use std::marker::Brand;
 use std::process::Abort;
 use std::sync::Wait;
 use std::sync::atomic::AtomicU64;
 use std::sync::ledger::{Blank, Ledger};
+use test_all_memory::{at_last, take_all_memory};
+use test_steps::same::is_same;
+use test_steps::script::{self, LinesFault, config, ran, steps};
 
 /// A file, its bytes, a reply of more than 40 of them, and a directory.
 const ANN: &str = "\
@@ -128,14 +128,14 @@ fn serve_at_last<L: Ledger, R: Wait + Abort>(
     alloc: Global,
     blank: Blank,
     config: Config,
-) -> Result<(), NoMemory>
+) -> Result<(), LinesFault>
     requires name { blank.name ≡ L.name }
     requires parts { blank.parts ≡ L.parts }
     requires seats { blank.parts ≡ config.workers + 1 }
 {
     let (server, mut seats) = Server::<L>::new(alloc, blank, config, 1)?;
     let mut client = Client::new(seats.pop().expect(rt, "a seat"), thread(User(1), 3));
-    for step in steps(rt, alloc, CALLS)? {
+    for step in steps(alloc, CALLS)? {
         assert!(rt; is_taken_at_last(rt, alloc, &server, &mut client, step)?);
     }
     assert!(rt; wants_memory(rt, alloc, &server, &mut client)?);
@@ -143,15 +143,15 @@ fn serve_at_last<L: Ledger, R: Wait + Abort>(
     assert!(rt; is_held_and_done(rt, alloc, &server, &mut seats)?);
     seats.push(client.into_seat())?;
     let traced = finish(server, seats).ok().expect(rt, "a whole trace");
-    let mut untroubled = ran(rt, alloc, CALLS)?;
-    script::run(rt, alloc, &mut untroubled, SERVED)?;
+    let mut untroubled = ran(alloc, CALLS)?;
+    script::run(alloc, &mut untroubled, SERVED)?;
     assert!(rt; is_same(&traced, &untroubled)?);
     Ok(())
 }
 
 #[test]
-fn a_loop_goes_on_with_what_is_held(rt: HostRuntime) -> Result<(), NoMemory> {
-    let config = config(&rt, rt.alloc())?;
+fn a_loop_goes_on_with_what_is_held(rt: HostRuntime) -> Result<(), LinesFault> {
+    let config = config(rt.alloc())?;
     let blank = Blank::new(u64::from(config.workers()) + 1);
     serve_at_last::<Brand, HostRuntime>(&rt, rt.alloc(), blank, config)
 }
