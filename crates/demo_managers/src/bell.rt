@@ -6,7 +6,7 @@ ghost use Rattle.qx_types.specs.declared.limits.TheConstants.Limits.{INODES};
 ghost use Rattle.demo_managers.specs.Null.{opened_at};
 ghost use Rattle.demo_managers.specs.Bell as bell;
 
-use demo_managers::Blocks;
+use crate::blocks::Blocks;
 use qx_machine::{Caller, Opened};
 use qx_resmgr::State;
 use qx_shared::Shared;

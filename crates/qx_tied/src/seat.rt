@@ -1,7 +1,7 @@
 //! A thread's place at a run.
 
 use crate::event::Event;
-use qx_tied::{Front, Naming};
+use crate::front::{Front, Naming};
 use std::marker::{Brand, Model};
 
 /// Which run it is: its list, and the world that it began with. Each call of a program picks them.

@@ -11,10 +11,10 @@ ghost use Rattle.qx_tied.specs.Tied.{done_at, entry, own_from};
 ghost use Rattle.qx_tied.specs.Run.{IsRunFrom, next};
 
 use crate::event::{Event, Tagged};
+use crate::front::{Front, Opened};
 use crate::seat::{OfRun, Seat};
 use crate::ties::Ties;
 use crossbeam_utils::CachePadded;
-use qx_tied::{Front, Opened};
 use qx_running::{PIECE, Piece, Running};
 use qx_types::{Manager, Outcome, Step, Worker};
 use qx_world::{PerformFault, Unstored, Work, World};

@@ -8,9 +8,9 @@ ghost use Rattle.qx_tied.specs.Tied.{done_at, taken};
 ghost use Rattle.qx_tied.specs.inner.Counts.{GoesOn, IsIdle};
 
 use crate::event::{Event, Return, Tagged, Try};
+use crate::front::{Front, Head};
 use crate::seat::{OfRun, Seat};
 use crossbeam_utils::CachePadded;
-use qx_tied::{Front, Head};
 use std::marker::Model;
 
 /// More events than a run comes to.
