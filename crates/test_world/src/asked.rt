@@ -2,13 +2,13 @@
 
 use crate::calling::ask;
 use crate::reads::opens_third;
-use crate::same::first_thread;
-use crate::script::ran;
-use qx_types::{Bytes, NoMemory, OFlags, Request, User};
+use qx_types::{Bytes, OFlags, Request, User};
+use test_steps::same::first_thread;
+use test_steps::script::{LinesFault, ran};
 
 #[test]
-fn opens_the_root(rt: HostRuntime) -> Result<(), NoMemory> {
-    let mut traced = ran(&rt, rt.alloc(), "spawn ann 1 10\n")?;
+fn opens_the_root(rt: HostRuntime) -> Result<(), LinesFault> {
+    let mut traced = ran(rt.alloc(), "spawn ann 1 10\n")?;
     let open = Request::OpenPath {
         path: Bytes::from_slice(rt.alloc(), b"/ann")?,
         flags: OFlags::READ,

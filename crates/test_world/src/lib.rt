@@ -1,14 +1,11 @@
-//! Tests of a traced world, of worker threads and of the shell through their public calls, and an example of a caller of a
-//! trace (`docs/THREADS.md`).
+//! Tests of a traced world and of the shell through their public calls, and an example of a caller of a trace
+//! (`docs/THREADS.md`).
 //!
-//! - `script.rt`, `same.rt`: the tests' steps, from lines of a script; two traces compared by all that can be seen of
-//!   them
 //! - `memory.rt`, `rows.rt`: steps whose memory is refused; their lines
 //! - `reads.rt`: what a script does not ask a trace and a world for
 //! - `calling.rt`, `asked.rt`: the example, a request that is taken from its call to its answer; its test
 //! - `running.rt`: a world that runs on with a recorder
 //! - `tied.rt`: the same at whose seats steps are taken
-//! - `pool.rt`: worker threads round one lock
 //! - `shell.rt`: the shell's edge
 #![tactic(auto)]
 
@@ -19,17 +16,11 @@ mod calling;
 #[cfg(test)]
 mod memory;
 #[cfg(test)]
-mod pool;
-#[cfg(test)]
 mod reads;
 #[cfg(test)]
 mod rows;
 #[cfg(test)]
 mod running;
-#[cfg(test)]
-mod same;
-#[cfg(test)]
-mod script;
 #[cfg(test)]
 mod shell;
 #[cfg(test)]

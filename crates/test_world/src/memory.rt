@@ -2,14 +2,14 @@
 
 use crate::reads::{RECEIVE, held};
 use crate::rows::ROWS;
-use crate::same::{is_same, is_same_so_far};
-use crate::script::{booted, ran, steps, store, store_all};
 use qx_machine::Entry;
 use qx_types::{NoMemory, Outcome, Step, User};
 use qx_world::{Traced, Work};
 use std::alloc::{AllocError, Global};
 use std::process::Abort;
 use test_all_memory::{at_last, take_all_memory};
+use test_steps::same::{is_same, is_same_so_far};
+use test_steps::script::{LinesFault, booted, ran, steps, store, store_all};
 
 /// How the steps of a run are refused memory.
 #[derive(Clone, Copy, PartialEq, Eq)]
@@ -137,10 +137,10 @@ fn take_lines(
     way: Way,
     before: &str,
     lines: &str,
-) -> Result<(), NoMemory> {
-    let steps = steps(rt, alloc, lines)?;
-    let mut traced = ran(rt, alloc, before)?;
-    let mut untroubled = ran(rt, alloc, before)?;
+) -> Result<(), LinesFault> {
+    let steps = steps(alloc, lines)?;
+    let mut traced = ran(alloc, before)?;
+    let mut untroubled = ran(alloc, before)?;
     for (line, step) in lines.lines().zip(steps.iter()) {
         take_line(rt, alloc, way, &mut traced, &mut untroubled, line, step)?;
     }
@@ -148,7 +148,7 @@ fn take_lines(
     Ok(())
 }
 
-fn take_rows(rt: &impl Abort, alloc: Global, way: Way) -> Result<(), NoMemory> {
+fn take_rows(rt: &impl Abort, alloc: Global, way: Way) -> Result<(), LinesFault> {
     for (before, all) in ROWS {
         for lines in all {
             take_lines(rt, alloc, way, before, lines)?;
@@ -158,7 +158,7 @@ fn take_rows(rt: &impl Abort, alloc: Global, way: Way) -> Result<(), NoMemory> {
 }
 
 /// Takes the steps of all rows where there is little memory.
-fn take_rows_without_memory(rt: &impl Abort, alloc: Global, way: Way) -> Result<(), NoMemory> {
+fn take_rows_without_memory(rt: &impl Abort, alloc: Global, way: Way) -> Result<(), LinesFault> {
     let pieces = take_most_memory(alloc)?;
     take_rows(rt, alloc, way)?;
     drop(pieces);
@@ -166,17 +166,17 @@ fn take_rows_without_memory(rt: &impl Abort, alloc: Global, way: Way) -> Result<
 }
 
 #[test]
-fn steps_are_taken_at_last(rt: HostRuntime) -> Result<(), NoMemory> {
+fn steps_are_taken_at_last(rt: HostRuntime) -> Result<(), LinesFault> {
     take_rows_without_memory(&rt, rt.alloc(), Way::All)
 }
 
 #[test]
-fn work_is_performed_at_last(rt: HostRuntime) -> Result<(), NoMemory> {
+fn work_is_performed_at_last(rt: HostRuntime) -> Result<(), LinesFault> {
     take_rows_without_memory(&rt, rt.alloc(), Way::AllOfWork)
 }
 
 #[test]
-fn each_request_of_a_step_is_refused(rt: HostRuntime) -> Result<(), NoMemory> {
+fn each_request_of_a_step_is_refused(rt: HostRuntime) -> Result<(), LinesFault> {
     take_rows(&rt, rt.alloc(), Way::Once)
 }
 
@@ -194,9 +194,9 @@ fn is_read_at_last(alloc: Global, traced: &Traced, user: User) -> Result<bool, N
 }
 
 #[test]
-fn a_trace_is_read_at_last(rt: HostRuntime) -> Result<(), NoMemory> {
+fn a_trace_is_read_at_last(rt: HostRuntime) -> Result<(), LinesFault> {
     let alloc = rt.alloc();
-    let traced = ran(&rt, alloc, "spawn ann 1 10\nspawn bob 1 10\n")?;
+    let traced = ran(alloc, "spawn ann 1 10\nspawn bob 1 10\n")?;
     assert!(rt; is_read_at_last(alloc, &traced, User(1))?);
     assert!(rt; is_read_at_last(alloc, &traced, User(2))?);
     Ok(())
@@ -204,9 +204,9 @@ fn a_trace_is_read_at_last(rt: HostRuntime) -> Result<(), NoMemory> {
 
 /// The first step, for which a trace has no room.
 #[test]
-fn a_step_without_room_comes_back(rt: HostRuntime) -> Result<(), NoMemory> {
+fn a_step_without_room_comes_back(rt: HostRuntime) -> Result<(), LinesFault> {
     let alloc = rt.alloc();
-    let (mut traced, untroubled) = (booted(&rt, alloc)?, booted(&rt, alloc)?);
+    let (mut traced, untroubled) = (booted(alloc)?, booted(alloc)?);
     let pieces = take_all_memory(alloc)?;
     assert!(rt; take_at_last(pieces, &mut traced, &untroubled, RECEIVE, None) == Some(true));
     Ok(())
@@ -221,10 +221,10 @@ fn is_byte_refused(alloc: Global) -> bool {
 const INTERRUPTS: &str = "interrupt ann.1.1\ninterrupt ann.1.1\ninterrupt bob.1.1\n";
 
 #[test]
-fn three_interrupts_in_reserved_room(rt: HostRuntime) -> Result<(), NoMemory> {
+fn three_interrupts_in_reserved_room(rt: HostRuntime) -> Result<(), LinesFault> {
     let alloc = rt.alloc();
-    let mut traced = ran(&rt, alloc, "spawn ann 1 10\nopen ann.1.1 /ann r 000\n")?;
-    let steps = steps(&rt, alloc, INTERRUPTS)?;
+    let mut traced = ran(alloc, "spawn ann 1 10\nopen ann.1.1 /ann r 000\n")?;
+    let steps = steps(alloc, INTERRUPTS)?;
     traced.reserve(3)?;
     let pieces = take_all_memory(alloc)?;
     let stored = is_byte_refused(alloc) && store_all(&mut traced, &steps).is_ok();

@@ -1,7 +1,5 @@
 //! What a script does not ask a trace and a world for.
 
-use crate::same::first_thread;
-use crate::script::{config, ran};
 use qx_types::{
     Bytes, Errno, Item, Manager, MessageBytes, NoMemory, OFlags, Outcome, Prio, Request, Step,
     User, Worker,
@@ -10,6 +8,8 @@ use qx_wire::Parsed;
 use qx_world::{PerformFault, Traced, Work, WorkRef, World};
 use std::alloc::Global;
 use std::process::Abort;
+use test_steps::same::first_thread;
+use test_steps::script::{LinesFault, config, ran};
 
 const RAM_WORKER: Worker = Worker(1);
 
@@ -72,9 +72,9 @@ fn perform_what_is_held(
 }
 
 #[test]
-fn performs_what_is_held(rt: HostRuntime) -> Result<(), NoMemory> {
-    let mut traced = ran(&rt, rt.alloc(), RECEIVED)?;
-    perform_what_is_held(&rt, rt.alloc(), &mut traced)
+fn performs_what_is_held(rt: HostRuntime) -> Result<(), LinesFault> {
+    let mut traced = ran(rt.alloc(), RECEIVED)?;
+    Ok(perform_what_is_held(&rt, rt.alloc(), &mut traced)?)
 }
 
 /// A worker receives an open, whose process ends then.
@@ -85,8 +85,8 @@ const LEFT: &str = "\
     exit ann.1\n";
 
 #[test]
-fn performs_what_an_ended_process_left(rt: HostRuntime) -> Result<(), NoMemory> {
-    let mut traced = ran(&rt, rt.alloc(), LEFT)?;
+fn performs_what_an_ended_process_left(rt: HostRuntime) -> Result<(), LinesFault> {
+    let mut traced = ran(rt.alloc(), LEFT)?;
     let Some(held) = held(traced.world(), RAM_WORKER)? else {
         panic!(rt; "nothing is held");
     };
@@ -178,7 +178,7 @@ fn run_alone(rt: &impl Abort, alloc: Global, world: &mut World) -> Result<(), No
 }
 
 #[test]
-fn runs_a_world_alone(rt: HostRuntime) -> Result<(), NoMemory> {
-    let mut world = World::new(rt.alloc(), config(&rt, rt.alloc())?)?;
-    run_alone(&rt, rt.alloc(), &mut world)
+fn runs_a_world_alone(rt: HostRuntime) -> Result<(), LinesFault> {
+    let mut world = World::new(rt.alloc(), config(rt.alloc())?)?;
+    Ok(run_alone(&rt, rt.alloc(), &mut world)?)
 }

@@ -1,12 +1,12 @@
 //! A world that runs on with a recorder, beside a trace of the same steps.
 
-use crate::script::{config, ran, steps};
 use qx_machine::Entry;
 use qx_running::{Recorded, Running};
 use qx_types::{Bytes, Coid, Device, Manager, NoMemory, Proc, Request, Step, Thread, User};
 use qx_world::World;
 use std::alloc::Global;
 use std::process::Abort;
+use test_steps::script::{LinesFault, config, ran, steps};
 
 /// A process opens its user's top twice.
 const OPENED: &str = "\
@@ -35,22 +35,22 @@ const HIGHER: &str = "\
     open bob.1.1 /bob r 000\n";
 
 /// Takes the steps of lines.
-fn run(rt: &impl Abort, alloc: Global, running: &mut Running, lines: &str) -> Result<(), NoMemory> {
-    for step in steps(rt, alloc, lines)? {
+fn run(alloc: Global, running: &mut Running, lines: &str) -> Result<(), LinesFault> {
+    for step in steps(alloc, lines)? {
         if running.take(step).is_err() {
-            return Err(NoMemory);
+            return Err(LinesFault::NoMemory);
         }
     }
     Ok(())
 }
 
 /// A run from boot of the steps of lines, with room for so many in the recorder.
-fn ran_on(rt: &impl Abort, alloc: Global, room: usize, lines: &str) -> Result<Running, NoMemory> {
-    let world = World::new(alloc, config(rt, alloc)?)?;
+fn ran_on(alloc: Global, room: usize, lines: &str) -> Result<Running, LinesFault> {
+    let world = World::new(alloc, config(alloc)?)?;
     let Ok(mut running) = Running::new(alloc, world, room) else {
-        return Err(NoMemory);
+        return Err(LinesFault::NoMemory);
     };
-    run(rt, alloc, &mut running, lines)?;
+    run(alloc, &mut running, lines)?;
     Ok(running)
 }
 
@@ -66,9 +66,9 @@ fn are_last(recorded: &[Recorded], entries: &[Entry], skipped: usize) -> bool {
 }
 
 /// A recorder of so many keeps the last of the entries that a trace stores.
-fn keeps_last(rt: &impl Abort, alloc: Global, room: usize) -> Result<(), NoMemory> {
-    let traced = ran(rt, alloc, OPENED)?;
-    let running = ran_on(rt, alloc, room, OPENED)?;
+fn keeps_last(rt: &impl Abort, alloc: Global, room: usize) -> Result<(), LinesFault> {
+    let traced = ran(alloc, OPENED)?;
+    let running = ran_on(alloc, room, OPENED)?;
     let count = traced.entries().len();
     let skipped = count.saturating_sub(room);
     let piece = running.recent(0)?;
@@ -79,7 +79,7 @@ fn keeps_last(rt: &impl Abort, alloc: Global, room: usize) -> Result<(), NoMemor
 }
 
 #[test]
-fn keeps_the_last_steps(rt: HostRuntime) -> Result<(), NoMemory> {
+fn keeps_the_last_steps(rt: HostRuntime) -> Result<(), LinesFault> {
     keeps_last(&rt, rt.alloc(), 0)?;
     keeps_last(&rt, rt.alloc(), 1)?;
     keeps_last(&rt, rt.alloc(), 5)?;
@@ -106,11 +106,11 @@ fn long_write(alloc: Global) -> Result<Step, NoMemory> {
 }
 
 #[test]
-fn counts_what_was_cut(rt: HostRuntime) -> Result<(), NoMemory> {
+fn counts_what_was_cut(rt: HostRuntime) -> Result<(), LinesFault> {
     let alloc = rt.alloc();
-    let mut running = ran_on(&rt, alloc, 5, "spawn ann 1 10\n")?;
+    let mut running = ran_on(alloc, 5, "spawn ann 1 10\n")?;
     if running.take(long_write(alloc)?).is_err() {
-        return Err(NoMemory);
+        return Err(LinesFault::NoMemory);
     }
     let piece = running.recent(2)?;
     assert!(rt; piece.steps.len() == 1);
@@ -132,20 +132,19 @@ fn latches() -> Option<Manager> {
 }
 
 #[test]
-fn serves_lines_in_turn(rt: HostRuntime) -> Result<(), NoMemory> {
+fn serves_lines_in_turn(rt: HostRuntime) -> Result<(), LinesFault> {
     let alloc = rt.alloc();
-    let mut running = ran_on(&rt, alloc, 0, THREE_LINES)?;
+    let mut running = ran_on(alloc, 0, THREE_LINES)?;
     assert!(rt; running.next_manager() == Some(Manager::Ram));
     run(
-        &rt,
         alloc,
         &mut running,
         "receive 1 ram\nperform 1 5\nreply ann.1.1\nopen ann.1.1 /ann r 000\n",
     )?;
     assert!(rt; running.next_manager() == Some(Manager::Pipe));
-    run(&rt, alloc, &mut running, "receive 1 pipe\nperform 1 6\n")?;
+    run(alloc, &mut running, "receive 1 pipe\nperform 1 6\n")?;
     assert!(rt; running.next_manager() == latches());
-    run(&rt, alloc, &mut running, HIGHER)?;
+    run(alloc, &mut running, HIGHER)?;
     assert!(rt; running.next_manager() == Some(Manager::Ram));
     Ok(())
 }

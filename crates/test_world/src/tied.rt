@@ -2,14 +2,14 @@
 
 ghost use Rattle.std.specs.Prelude.{◌≡◌};
 
-use crate::script::{config, steps};
 use qx_tied::{Event, OfRun, Opened, Seat, Tied};
-use qx_types::{NoMemory, Step};
+use qx_types::Step;
 use qx_world::World;
 use std::alloc::Global;
 use std::marker::Brand;
 use std::process::Abort;
 use test_all_memory::{at_last, take_all_memory};
+use test_steps::script::{LinesFault, config, steps};
 
 /// A process opens its user's top, and closes it.
 const OPENED: &str = "\
@@ -48,18 +48,18 @@ fn take_at_two<J: OfRun>(
     alloc: Global,
     opened: Opened<Event>,
     world: World,
-) -> Result<u64, NoMemory>
+) -> Result<u64, LinesFault>
     requires list { opened.seen.book ≡ J.book }
     requires began { world ≡ J.began }
 {
     let Ok((mut tied, mut seats)) = Tied::<J>::new(alloc, opened, world, 100, 2) else {
-        return Err(NoMemory);
+        return Err(LinesFault::NoMemory);
     };
     let (Some(mut worker), Some(mut client)) = (seats.pop(), seats.pop()) else {
         panic!(rt; "two seats");
     };
     let mut refused = 0u64;
-    for step in steps(rt, alloc, OPENED)? {
+    for step in steps(alloc, OPENED)? {
         let pieces = take_all_memory(alloc)?;
         let is_refused = if step.is_client() {
             take_at_last(&mut tied, &mut client, pieces, step)
@@ -77,9 +77,9 @@ fn take_at_two<J: OfRun>(
 }
 
 #[test]
-fn seats_hold_what_was_done_there(rt: HostRuntime) -> Result<(), NoMemory> {
+fn seats_hold_what_was_done_there(rt: HostRuntime) -> Result<(), LinesFault> {
     let alloc = rt.alloc();
-    let world = World::new(alloc, config(&rt, alloc)?)?;
+    let world = World::new(alloc, config(alloc)?)?;
     let refused = take_at_two::<Brand>(&rt, alloc, Opened::new(), world)?;
     assert!(rt; refused > 0);
     Ok(())

@@ -1,4 +1,0 @@
-use Rattle.test_world.proofs.pool.runs.run.Given as goal
-
-abbrev pub ghosts-serve : goal.ghosts-serve
-ghosts-serve g a = record { name = a.blank.name; parts = a.blank.parts }
