@@ -3,17 +3,9 @@
 
 ghost use Rattle.std.specs.Prelude.{◌≡◌, ◌+◌};
 
-<<<<<<< HEAD:crates/test_world/src/pool/memory.rt
-use crate::pool::acts::Signals;
-use crate::pool::runs::{run, thread};
-use crate::pool::servers::BOTH;
-use crate::same::is_same;
-use crate::script::{self, config, ran, steps};
-=======
 use crate::acts::Signals;
 use crate::runs::{run, thread};
 use crate::servers::BOTH;
->>>>>>> 2be07639008ccfbe53e2d1673d000e135d8fae94:crates/test_threads/src/memory.rt
 use qx_pool::{CallEnd, Client, Seat, Server, finish, worker_loop};
 use qx_types::{Bytes, Config, Request, Step, User, Worker};
 use std::alloc::{AllocError, Global};
@@ -23,11 +15,8 @@ use std::sync::Wait;
 use std::sync::atomic::AtomicU64;
 use std::sync::ledger::{Blank, Ledger};
 use test_all_memory::{at_last, take_all_memory};
-<<<<<<< HEAD:crates/test_world/src/pool/memory.rt
-=======
 use test_steps::same::is_same;
 use test_steps::script::{self, LinesFault, config, ran, steps};
->>>>>>> 2be07639008ccfbe53e2d1673d000e135d8fae94:crates/test_threads/src/memory.rt
 
 /// A file, its bytes, a reply of more than 40 of them, and a directory.
 const ANN: &str = "\
