@@ -1,5 +1,5 @@
 -- Serving leaves no item waiting.
-use Rattle.std.proofs.Common.{◌≡◌, ◌⊎◌, inl, inr, ℕ, suc, zero, ◌+◌, ◌*◌, ◌≤◌, ◌<◌, true, List, [], ◌∷◌, ◌++◌, Option, Some, None, length, refl, sym, ap, ◌∙◌, subst, arith, if◌then◌else◌, slice_set, cond, is_some}
+use Rattle.std.proofs.Common.{◌≡◌, ◌⊎◌, inl, inr, ℕ, suc, zero, ◌+◌, ◌*◌, ◌≤◌, ◌<◌, true, false, List, [], ◌∷◌, ◌++◌, Option, Some, None, length, refl, sym, ap, ◌∙◌, subst, arith, if◌then◌else◌, slice_set, cond, is_some, lt-ltb}
 use Rattle.std.specs.Prelude.{find, map, nat_lt, slice_get, sum_by}
 use Rattle.std.specs.List.{range_with_len}
 use Rattle.std.proofs.lemmas.Grind.{common_steps}
@@ -213,8 +213,23 @@ line_of_each_among w (manager ∷ others) (line ∷ lines) e each =
     let rest = line_of_each_among w others lines (omega (arith, e)) (λ number other found. each (suc number) other found) in
     λ i. sym first i ∷ rest i
 
-line_of_each : (w : World) → length w.lines ≡ manager_count → map (line_of w) managers ≡ w.lines
+pub line_of_each : (w : World) → length w.lines ≡ manager_count → map (line_of w) managers ≡ w.lines
 line_of_each w all = line_of_each_among w managers w.lines (all ∙ sym count_managers) (line_under w)
+
+-- how many items wait at some managers
+abbrev pub waits_among : World → List Manager → ℕ
+waits_among w some = sum_by length (map (line_of w) some)
+
+pub more_waits : (w : World) (manager : Manager) (some : List Manager) → waits_among w (manager ∷ some) ≡ length (line_of w manager) + waits_among w some
+more_waits w manager some = sum_by-cons length (line_of w manager) (map (line_of w) some)
+
+-- a manager whose line is empty adds none
+pub empty_waits : (w : World) (manager : Manager) (some : List Manager) → has_item w manager ≡ false → waits_among w (manager ∷ some) ≡ waits_among w some
+empty_waits w manager some none = more_waits w manager some ∙ ap (λ n. n + waits_among w some) (no_items (length (line_of w manager)) none) ∙ (omega arith)
+  where
+    no_items : (n : ℕ) → nat_lt 0 n ≡ false → n ≡ 0
+    no_items zero is = refl
+    no_items (suc n) is = let clash : true ≡ false = sym (lt-ltb 0 (suc n) (omega arith)) ∙ is in absurd (cc)
 
 -- where items wait, one of them is next
 some_next : (n : ℕ) (w : World) (items : ℕ) → Keeps w n → items_waiting w ≡ suc items → Next w managers

@@ -7,7 +7,7 @@ ghost use Rattle.qx_storing.specs.inner.Marks.{AddsMarks, IsUnfit, IsFit, MarksT
 
 use crate::seat::{Note, Seat};
 use qx_machine::Entry;
-use qx_types::{Outcome, Request, Step};
+use qx_types::{Manager, Outcome, Request, Step};
 use std::sync::ledger::Ledger;
 
 /// Whether each note stands among the entries at its place, and the places are 1 to their number, each once and rising in
@@ -79,9 +79,36 @@ fn is_same_step(left: &Step, right: &Step) -> bool
                 request: other_request,
             },
         ) => thread == other && is_same_request(request, other_request),
-        (Step::Call { .. }, _) | (_, Step::Call { .. }) => false,
+        (
+            Step::Mount {
+                thread,
+                path,
+                manager,
+            },
+            Step::Mount {
+                thread: other,
+                path: other_path,
+                manager: other_manager,
+            },
+        ) => thread == other && path == other_path && is_same_manager(*manager, *other_manager),
+        (
+            Step::Receive { worker, manager },
+            Step::Receive {
+                worker: other,
+                manager: other_manager,
+            },
+        ) => worker == other && is_same_manager(*manager, *other_manager),
+        (Step::Call { .. } | Step::Mount { .. } | Step::Receive { .. }, _)
+        | (_, Step::Call { .. } | Step::Mount { .. } | Step::Receive { .. }) => false,
         _ => left == right,
     }
+}
+
+/// Whether two managers are the same, by their numbers.
+fn is_same_manager(left: Manager, right: Manager) -> bool
+    ensures { MatchBool result (left ≡ right) (left ≢ right) }
+{
+    left.number() == right.number()
 }
 
 fn is_same_request(left: &Request, right: &Request) -> bool

@@ -1,10 +1,12 @@
-use Rattle.std.proofs.Common.{◌≡◌, ◌*◌, ◌≤◌, length, take}
-use Rattle.std.specs.Prelude.{sum_by}
+use Rattle.std.proofs.Common.{◌≡◌, ◌+◌, ◌*◌, ◌≤◌, drop}
+use Rattle.qx_types.specs.Managers.{managers}
+use Rattle.qx_play.proofs.Serving.{waits_among}
 use Rattle.qx_play.proofs.play.waiting.Given as goal
 
--- what waits in the lines that were seen
+-- what waits at the managers that were met, and at those that are left; each turn leaves one less at least
 abbrev pub invariant-lines : goal.invariant-lines
 invariant-lines l = record {
-  sum : l.waiting ≡ sum_by length (take l.number l.world.lines);
-  small : l.waiting ≤ l.number * 18446744073709551615;
+  sum : l.waiting + waits_among l.world (drop l.number managers) ≡ waits_among l.world managers;
+  small : l.waiting ≤ l.counter * 18446744073709551615;
+  fewer : l.counter ≤ l.number;
 }

@@ -1,0 +1,28 @@
+use Rattle.std.proofs.Common.{◌≡◌, ◌∙◌, ◌+◌, ◌≤◌, ap, arith, drop, length, sym}
+use Rattle.std.proofs.Math.ListN.{drop_of_length-le}
+use Rattle.std.specs.Prelude.{sum_by}
+use Rattle.qx_types.specs.Managers.{manager_number, managers}
+use Rattle.qx_types.proofs.Managers.{count_managers, few_managers}
+use Rattle.qx_machine.specs.Reads.{has_item}
+use Rattle.qx_world.proofs.NextLemmas.{next_told, none_told_from}
+use Rattle.qx_play.proofs.Serving.{empty_waits, line_of_each, more_waits, waits_among}
+use Rattle.qx_play.proofs.play.waiting.Goals as goal
+
+pub returns-in_default-clause-number : goal.returns-in_default-clause-number
+returns-in_default-clause-number c =
+    let w = c.args.world.now in
+    let none = none_told_from (has_item w) (waits_among w) (empty_waits w) c.lines.number (sym c.in_default.is ∙ c.next_from.ensures) in
+    let all = ap (sum_by length) (line_of_each w c.requires) in
+    (omega (arith, none, c.lines.invariant.sum)) ∙ all
+
+pub lines-preserved : goal.lines-preserved
+lines-preserved c =
+    let w = c.args.world.now in
+    let next = next_told (has_item w) (waits_among w) (empty_waits w) c.lines.number c.in-Some.manager (sym c.in-Some.is ∙ c.next_from.ensures) in
+    let more = next.same ∙ more_waits w c.in-Some.manager (drop (manager_number c.in-Some.manager + 1) managers) in
+    let place = ap (λ n. waits_among w (drop (n + 1) managers)) c.number.ensures.number in
+    record {
+      sum = omega (arith, more, place, c.waiting.ensures, c.lines.invariant.sum);
+      small = omega (arith, c.lines.invariant.small);
+      fewer = omega (arith, c.lines.invariant.fewer, next.behind, c.number.ensures.number);
+    }
