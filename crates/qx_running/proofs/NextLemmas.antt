@@ -13,7 +13,7 @@ use Rattle.qx_isolation.specs.declared.rows.Queued.{Queued}
 use Rattle.qx_machine.specs.Machine.{World, line_of}
 use Rattle.qx_machine.specs.Reads as reads
 use Rattle.qx_machine.specs.Reads.{has_item}
-use Rattle.qx_running.specs.Running.{greatest_urgency, is_as_urgent, next_manager, urgency, urgency_of}
+use Rattle.qx_running.specs.Running.{greatest_urgency, in_turn, is_as_urgent, urgency, urgency_of}
 
 -- ---- managers whose lines are empty tell nothing
 
@@ -87,7 +87,7 @@ turned p turn some = list_any-append p (drop turn some) (take turn some) ∙ eit
     either false false = refl
 
 -- a manager is next where one has an item
-pub next_some : (w : World) (turn : ℕ) → is_some (next_manager w turn) ≡ is_some (reads.next_manager w)
+pub next_some : (w : World) (turn : ℕ) → is_some (in_turn w turn) ≡ is_some (reads.next_manager w)
 next_some w turn =
     let p = is_as_urgent w (greatest_urgency w managers) in
     found_any p (drop turn managers ++ take turn managers) ∙ turned p turn managers ∙ any_urgent w managers ∙ sym (found_any (has_item w) managers)
@@ -98,13 +98,13 @@ find_turned p turn some = find-append p (drop turn some) (take turn some)
 
 -- ---- the next manager, found in two parts
 
-pub next_behind : (w : World) (most turn now : ℕ) (manager : Manager) → most ≡ greatest_urgency w managers → turn ≡ now → Some manager ≡ find (is_as_urgent w most) (drop turn managers) → Some manager ≡ next_manager w now
+pub next_behind : (w : World) (most turn now : ℕ) (manager : Manager) → most ≡ greatest_urgency w managers → turn ≡ now → Some manager ≡ find (is_as_urgent w most) (drop turn managers) → Some manager ≡ in_turn w now
 next_behind w most turn now manager is same here =
     let p = is_as_urgent w most in
     ap (λ o. option_or o (find p (take turn managers))) here ∙ sym (find_turned p turn managers) ∙ ap₂ (λ m t. find (is_as_urgent w m) (drop t managers ++ take t managers)) is same
 
 -- none is behind: the first of all is before
-pub next_before : (w : World) (most turn now : ℕ) (result : Option Manager) → most ≡ greatest_urgency w managers → turn ≡ now → None ≡ find (is_as_urgent w most) (drop turn managers) → result ≡ find (is_as_urgent w most) (drop 0 managers) → result ≡ next_manager w now
+pub next_before : (w : World) (most turn now : ℕ) (result : Option Manager) → most ≡ greatest_urgency w managers → turn ≡ now → None ≡ find (is_as_urgent w most) (drop turn managers) → result ≡ find (is_as_urgent w most) (drop 0 managers) → result ≡ in_turn w now
 next_before w most turn now result is same here later =
     let p = is_as_urgent w most in
     later ∙ ap (find p) (sym (take-append-drop turn managers)) ∙ find-append p (take turn managers) (drop turn managers) ∙ ap (option_or (find p (take turn managers))) (sym here) ∙ or_none (find p (take turn managers))

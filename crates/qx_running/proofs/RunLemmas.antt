@@ -12,7 +12,7 @@ use Rattle.qx_machine.specs.Runs.{world_after}
 use Rattle.qx_machine.proofs.Runs.{step-config, world_after-append}
 use Rattle.qx_types.specs.Cut.{bytes_of_outcome, bytes_of_step, cut_outcome, cut_step}
 use Rattle.qx_world.specs.Steps.{IsReached}
-use Rattle.qx_running.specs.Running.{Now, CameBy, IsOfRun, next, recorded, recorded_from, turn_after, world_by}
+use Rattle.qx_running.specs.Running.{Now, CameBy, IsOfRun, next, recorded, recorded_from, turn_by, with_turn, world_by}
 use Rattle.qx_running.specs.declared.running.Recorded.{Recorded}
 use Rattle.qx_running.specs.inner.Running.{now_of}
 
@@ -63,10 +63,10 @@ abbrev pub kept_of : Option User → Step → Outcome → Recorded
 kept_of owner e outcome = record { owner = owner; entry = record { step = cut_step e; outcome = cut_outcome outcome }; step_bytes = bytes_of_step e; outcome_bytes = bytes_of_outcome outcome }
 
 -- a step that was taken and recorded makes the run that is next
-pub is_next : (world : World) (recorder : Buffer Recorded) (taken turn : ℕ) (e : Step) (owner : Option User) (outcome : Outcome) (world_then : World) (recorder_then : Buffer Recorded) (taken_then turn_then : ℕ) →
+pub is_next : (world : World) (recorder : Buffer Recorded) (taken : ℕ) (turns : List ℕ) (e : Step) (owner : Option User) (outcome : Outcome) (world_then : World) (recorder_then : Buffer Recorded) (taken_then : ℕ) (turns_then : List ℕ) →
     option_map (λ user. user.0) owner ≡ machine.owner world e → outcome ≡ (step world e).outcome → world_then ≡ (step world e).world →
-    recorder_then ≡ buffer (keep_last recorder.capacity (recorder.items ++ kept_of owner e outcome ∷ [])) recorder.capacity → taken_then ≡ min (taken + 1) (2 ^ 64 - 1) → turn_then ≡ turn_after turn e →
-    now_of world_then recorder_then taken_then turn_then ≡ next (now_of world recorder taken turn) e
-is_next world recorder taken turn e owner outcome world_then recorder_then taken_then turn_then owner_is outcome_is world_is recorder_is taken_is turn_is =
+    recorder_then ≡ buffer (keep_last recorder.capacity (recorder.items ++ kept_of owner e outcome ∷ [])) recorder.capacity → taken_then ≡ min (taken + 1) (2 ^ 64 - 1) → turns_then ≡ with_turn turns (turn_by world e) →
+    now_of world_then recorder_then taken_then turns_then ≡ next (now_of world recorder taken turns) e
+is_next world recorder taken turns e owner outcome world_then recorder_then taken_then turns_then owner_is outcome_is world_is recorder_is taken_is turn_is =
     let kept : kept_of owner e outcome ≡ recorded world e = (λ i. kept_of (same_owner owner (machine.owner world e) owner_is i) e (outcome_is i)) in
-    (λ i. now_of (world_is i) (recorder_is i) (taken_is i) (turn_is i)) ∙ (λ i. now_of (step world e).world (buffer (keep_last recorder.capacity (recorder.items ++ kept i ∷ [])) recorder.capacity) (min (taken + 1) (2 ^ 64 - 1)) (turn_after turn e))
+    (λ i. now_of (world_is i) (recorder_is i) (taken_is i) (turn_is i)) ∙ (λ i. now_of (step world e).world (buffer (keep_last recorder.capacity (recorder.items ++ kept i ∷ [])) recorder.capacity) (min (taken + 1) (2 ^ 64 - 1)) (with_turn turns (turn_by world e)))

@@ -1,5 +1,5 @@
 -- A run that goes on with no list of its steps: its world, the last steps, which manager is next, and which steps are read.
-use Rattle.std.specs.Prelude.{◌≡◌, ℕ, ◌+◌, ◌-◌, ◌^◌, ◌==◌, ◌&&◌, Bool, List, [], ◌∷◌, ◌++◌, Option, Some, None, drop, find, length, max, min, nat_lt, option_map, slice_get, take}
+use Rattle.std.specs.Prelude.{◌≡◌, ℕ, ◌+◌, ◌-◌, ◌^◌, ◌==◌, ◌&&◌, Bool, List, [], ◌∷◌, ◌++◌, Option, Some, None, drop, find, length, max, min, nat_lt, option_map, replicate, slice_get, slice_set, take, get_or}
 use Rattle.circular_buffer.specs.Buffer.{keep_last}
 use Rattle.qx_types.specs.Managers.{manager_number, managers}
 use Rattle.qx_types.specs.declared.names.Manager.{Manager}
@@ -10,19 +10,20 @@ use Rattle.qx_machine.specs.Machine.{World, line_of, owner, step}
 use Rattle.qx_machine.specs.Runs.{run, world_after}
 use Rattle.qx_types.specs.Cut.{bytes_of_outcome, bytes_of_step, cut_outcome, cut_step}
 use Rattle.qx_running.specs.declared.running.Recorded.{Recorded}
+use Rattle.qx_running.specs.declared.running.TheConstants.{URGENCIES}
 
 -- the world; the last steps, of at most so many; how many were taken since the run began, at most the greatest number of 64 bits;
--- and the number of the manager whose turn it is
+-- and for each urgency of a line the number of the manager whose turn it is among those of that urgency
 pub record Now : Type 0 where
   pub world : World
   pub last : List Recorded
   pub room : ℕ
   pub taken : ℕ
-  pub turn : ℕ
+  pub turns : List ℕ
 
 -- a run that begins
 abbrev pub begun : World → ℕ → Now
-begun world room = record { world = world; last = []; room = room; taken = 0; turn = 0 }
+begun world room = record { world = world; last = []; room = room; taken = 0; turns = replicate URGENCIES 0 }
 
 -- what is kept of a step from a world
 abbrev pub recorded : World → Step → Recorded
@@ -52,22 +53,7 @@ pub record CameBy (before since : List Step) (now : Now) : Type 0 where
 abbrev pub IsOfRun : Now → Type 0
 IsOfRun now = (before : List Step) × (since : List Step) × CameBy before since now
 
--- whose turn it is after a step: a receive's manager comes last of all
-abbrev pub turn_after : ℕ → Step → ℕ
-turn_after turn (Receive worker manager) = manager_number manager + 1
-turn_after turn _ = turn
-
--- after one step more
-abbrev pub next : Now → Step → Now
-next now e = record {
-  world = (step now.world e).world;
-  last = keep_last now.room (now.last ++ recorded now.world e ∷ []);
-  room = now.room;
-  taken = min (now.taken + 1) (2 ^ 64 - 1);
-  turn = turn_after now.turn e;
-}
-
--- ---- the next manager
+-- ---- whose turn it is
 
 -- how urgent a line is by the priority of its first item: one more than that, and 0 where it is empty
 abbrev pub urgency_of : Option Prio → ℕ
@@ -76,6 +62,28 @@ urgency_of (Some prio) = prio.0 + 1
 
 abbrev pub urgency : World → Manager → ℕ
 urgency w manager = urgency_of (option_map (λ first. first.prio) (slice_get (line_of w manager) 0))
+
+-- whose turn a step makes it, and among the managers of which urgency: a receive's manager comes last of those whose lines are as urgent as
+-- its own was
+abbrev pub turn_by : World → Step → Option (ℕ × ℕ)
+turn_by w (Receive worker manager) = Some (urgency w manager, manager_number manager + 1)
+turn_by w _ = None
+
+abbrev pub with_turn : List ℕ → Option (ℕ × ℕ) → List ℕ
+with_turn turns None = turns
+with_turn turns (Some by) = slice_set turns by.0 by.1
+
+-- after one step more
+abbrev pub next : Now → Step → Now
+next now e = record {
+  world = (step now.world e).world;
+  last = keep_last now.room (now.last ++ recorded now.world e ∷ []);
+  room = now.room;
+  taken = min (now.taken + 1) (2 ^ 64 - 1);
+  turns = with_turn now.turns (turn_by now.world e);
+}
+
+-- ---- the next manager
 
 -- how urgent the most urgent line of some managers is
 abbrev pub greatest_urgency : World → List Manager → ℕ
@@ -86,10 +94,14 @@ greatest_urgency w (manager ∷ some) = max (urgency w manager) (greatest_urgenc
 abbrev pub is_as_urgent : World → ℕ → Manager → Bool
 is_as_urgent w most manager = nat_lt 0 most && (urgency w manager == most)
 
--- the manager whose line a worker serves next: that of the first item of the highest priority, and of several such the first one
--- from the turn on; none where all lines are empty
-abbrev pub next_manager : World → ℕ → Option Manager
-next_manager w turn = find (is_as_urgent w (greatest_urgency w managers)) (drop turn managers ++ take turn managers)
+-- of the managers with the most urgent lines the first one from a turn on; none where all lines are empty
+abbrev pub in_turn : World → ℕ → Option Manager
+in_turn w turn = find (is_as_urgent w (greatest_urgency w managers)) (drop turn managers ++ take turn managers)
+
+-- the manager whose line a worker serves next: that of the first item of the highest priority, and of several such the one whose turn it
+-- is; none where all lines are empty
+abbrev pub next_manager : World → List ℕ → Option Manager
+next_manager w turns = in_turn w (get_or turns (greatest_urgency w managers) 0)
 
 -- ---- reading
 

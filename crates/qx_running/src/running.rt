@@ -1,6 +1,6 @@
 //! A world that runs on with no list of its steps, and a recorder of the last ones.
 
-ghost use Rattle.std.specs.Prelude.{◌≡◌, ◌≢◌, ◌-◌, ◌++◌, ◌∷◌, ◌↔◌, [], List, Err, IfErr, IfOk, IsErrOf, IsFalse, IsOk, OnErr, OnOk, drop, find, is_some, max, take};
+ghost use Rattle.std.specs.Prelude.{◌≡◌, ◌≢◌, ◌-◌, ◌++◌, ◌∷◌, ◌↔◌, [], List, Err, IfErr, IfOk, IsErrOf, IsFalse, IsOk, OnErr, OnOk, drop, find, get_or, is_some, max, take};
 ghost use Rattle.circular_buffer.specs.Buffer.{buffer, keep_last};
 ghost use Rattle.qx_types.specs.Managers.{managers};
 ghost use Rattle.qx_types.specs.declared.step.Step.{Step};
@@ -9,15 +9,18 @@ ghost use Rattle.qx_machine.specs.Reads as reads;
 ghost use Rattle.qx_machine.specs.Wants.{wants_memory};
 ghost use Rattle.qx_world.specs.Steps.{held_work, IsStale, PerformFault};
 ghost use Rattle.qx_types.specs.Cut.{bytes_of_outcome, bytes_of_step, cut_outcome, cut_step};
-ghost use Rattle.qx_running.specs.Running.{begun, greatest_urgency, is_as_urgent, next, next_manager, oldest, turn_after, urgency, CameBy, IsOfRun};
+ghost use Rattle.qx_running.specs.Running.{begun, greatest_urgency, is_as_urgent, next, next_manager, oldest, turn_by, urgency, with_turn, CameBy, IsOfRun};
 
 use circular_buffer::HeapCircularBuffer;
 use qx_machine::Entry;
 use qx_types::cut::{bytes_of_outcome, bytes_of_step, cut_outcome, cut_step};
-use qx_types::{Manager, Outcome, Step, User, Worker};
+use qx_types::{Limits, Manager, Outcome, Step, User, Worker};
 use qx_world::{PerformFault, Unstored, Work, World};
 use std::alloc::{AllocError, Global};
 use std::marker::Model;
+
+/// How many urgencies a line may have: none, or one more than the priority of its first item.
+const URGENCIES: usize = Limits::PRIORITY as usize + 2;
 
 /// The most steps that are read at once (this profile).
 pub const PIECE: usize = 64;
@@ -69,8 +72,8 @@ pub struct Running {
     recorder: HeapCircularBuffer<Recorded>,
     /// How many steps were taken since the run began; it stays at the greatest number.
     taken: u64,
-    /// The number of the manager whose turn it is among those of one priority.
-    turn: usize,
+    /// For each urgency of a line the number of the manager whose turn it is among those of that urgency.
+    turns: [u8; URGENCIES],
 }
 
 /// As it would be derived; but what drops a run at an exit is proved with one call there.
@@ -81,7 +84,7 @@ impl Drop for Running {
             world: _,
             recorder: _,
             taken: _,
-            turn: _,
+            turns: _,
         } = self;
     }
 }
@@ -96,9 +99,9 @@ impl Model for Running {
 
     ghost coded = { Prim.hlevel (codes, names_code) };
 
-    ghost view = { λ r. now_of r.world r.recorder r.taken r.turn };
+    ghost view = { λ r. now_of r.world r.recorder r.taken r.turns };
 
-    ghost invariant = { λ r. IsOfRun (now_of r.world r.recorder r.taken r.turn) };
+    ghost invariant = { λ r. IsOfRun (now_of r.world r.recorder r.taken r.turns) };
 }
 
 impl Running {
@@ -117,7 +120,7 @@ impl Running {
             world,
             recorder,
             taken: 0,
-            turn: 0,
+            turns: [0; URGENCIES],
         })
     }
 
@@ -131,10 +134,11 @@ impl Running {
         ensures sure { IsFalse (wants_memory self.old.world step) → IsOk result }
     {
         let owner = self.world.owner(&step);
+        let turn = turn_by(&self.world, &step);
         let Ok(outcome) = self.world.step(&step) else {
             return Err(Unstored { step });
         };
-        self.turn = turn_after(self.turn, &step);
+        set_turn(&mut self.turns, turn);
         self.taken = self.taken.saturating_add(1);
         record(self.alloc, &mut self.recorder, owner, step, &outcome);
         Ok(outcome)
@@ -172,16 +176,27 @@ impl Running {
     }
 
     /// The manager whose line a worker serves next: that in which the first item has the highest priority, and of several such
-    /// the first one by number, from behind the manager of the last receive on and then from the first manager on; none where
-    /// all lines are empty (this profile).
+    /// the one whose turn it is: the first one by number, from behind that on which was received last of lines that were as
+    /// urgent, and then from the first manager on; none where all lines are empty (this profile). So of lines that stay as
+    /// urgent each is served before another one is served twice.
     pub fn next_manager(&self) -> Option<Manager>
-        ensures next { result ≡ next_manager self.now.world self.now.turn }
+        ensures next { result ≡ next_manager self.now.world self.now.turns }
         ensures some { is_some result ≡ is_some (reads.next_manager self.now.world) }
     {
         let most = self.greatest_urgency();
-        match self.first_urgent(self.turn, most) {
+        match self.first_urgent(self.turn(most), most) {
             Some(manager) => Some(manager),
             None => self.first_urgent(0, most),
+        }
+    }
+
+    /// The number of the manager whose turn it is among those of an urgency.
+    fn turn(&self, urgency: u16) -> usize
+        ensures { result ≡ get_or self.now.turns urgency 0 }
+    {
+        match self.turns.get(urgency as usize) {
+            Some(turn) => *turn as usize,
+            None => 0,
         }
     }
 
@@ -195,20 +210,10 @@ impl Running {
             let Some(manager) = self.world.next_from(number) else {
                 return most;
             };
-            most = most.max(self.urgency(manager));
+            most = most.max(urgency(&self.world, manager));
             number = manager.number() + 1;
         }
         most
-    }
-
-    /// How urgent the line of a manager is.
-    fn urgency(&self, manager: Manager) -> u16
-        ensures { result ≡ urgency self.now.world manager }
-    {
-        match self.world.first_prio(manager) {
-            Some(prio) => prio.0 as u16 + 1,
-            None => 0,
-        }
     }
 
     /// The first manager, by number and from one on, whose line is so urgent.
@@ -218,7 +223,7 @@ impl Running {
         let mut number = from;
         'managers: for _ in 0..Manager::count() {
             let manager = self.world.next_from(number)?;
-            if most > 0 && self.urgency(manager) == most {
+            if most > 0 && urgency(&self.world, manager) == most {
                 return Some(manager);
             }
             number = manager.number() + 1;
@@ -270,7 +275,7 @@ impl Running {
             world,
             recorder: _,
             taken: _,
-            turn: _,
+            turns: _,
         } = self;
         world
     }
@@ -298,12 +303,39 @@ fn record(
     let _gone = recorder.push_back(recorded);
 }
 
-/// The number of the manager whose turn it is after a step.
-fn turn_after(turn: usize, step: &Step) -> usize
-    ensures { result ≡ turn_after turn step.now }
+/// How urgent the line of a manager is: one more than the priority of its first item, and 0 where it is empty.
+fn urgency(world: &World, manager: Manager) -> u16
+    ensures { result ≡ urgency world.now manager }
+{
+    match world.first_prio(manager) {
+        Some(prio) => prio.0 as u16 + 1,
+        None => 0,
+    }
+}
+
+/// Whose turn a step makes it, and among the managers of which urgency; none where it is no receive.
+fn turn_by(world: &World, step: &Step) -> Option<(usize, u8)>
+    ensures { result ≡ turn_by world.now step.now }
 {
     match step {
-        Step::Receive { manager, .. } => manager.number() + 1,
-        _ => turn,
+        Step::Receive { manager, .. } => {
+            Some((
+                urgency(world, *manager) as usize,
+                manager.number() as u8 + 1,
+            ))
+        }
+        _ => None,
+    }
+}
+
+/// Among the managers of an urgency it is this one's turn.
+fn set_turn(turns: &mut [u8; URGENCIES], by: Option<(usize, u8)>)
+    ensures { turns.new ≡ with_turn turns.old by }
+{
+    let Some((urgency, turn)) = by else {
+        return;
+    };
+    if urgency < URGENCIES {
+        turns[urgency] = turn;
     }
 }

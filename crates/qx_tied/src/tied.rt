@@ -131,7 +131,7 @@ impl<J: OfRun> Tied<J> {
 
     /// The manager whose line a worker serves next, as `Running` tells it.
     pub fn next_manager(&self) -> Option<Manager>
-        ensures next { result ≡ next_manager self.now.run.world self.now.run.turn }
+        ensures next { result ≡ next_manager self.now.run.world self.now.run.turns }
         ensures some { is_some result ≡ is_some (reads.next_manager self.now.run.world) }
     {
         self.running.next_manager()

@@ -2,7 +2,7 @@
 
 use qx_machine::Entry;
 use qx_running::{Recorded, Running};
-use qx_types::{Bytes, Coid, Device, Manager, NoMemory, Proc, Request, Step, Thread, User};
+use qx_types::{Bytes, Coid, Device, Manager, NoMemory, Proc, Request, Step, Thread, User, Worker};
 use qx_world::World;
 use std::alloc::Global;
 use std::process::Abort;
@@ -146,5 +146,81 @@ fn serves_lines_in_turn(rt: HostRuntime) -> Result<(), LinesFault> {
     assert!(rt; running.next_manager() == latches());
     run(alloc, &mut running, HIGHER)?;
     assert!(rt; running.next_manager() == Some(Manager::Ram));
+    Ok(())
+}
+
+/// Connections at three managers, one for each thread; the third has a higher priority.
+const THREE_CONNECTIONS: &str = "\
+    spawn ann 3 10\n\
+    prio ann.1.3 20\n\
+    mount ann.1.1 /ann/p pipe\n\
+    mount ann.1.1 /ann/l latch\n\
+    open ann.1.1 /ann r 000\n\
+    receive 1 ram\n\
+    perform 1 5\n\
+    reply ann.1.1\n\
+    open ann.1.2 /ann/p/f rwc 600\n\
+    receive 1 pipe\n\
+    perform 1 5\n\
+    reply ann.1.2\n\
+    open ann.1.3 /ann/l/g rwc 600\n\
+    receive 1 latch\n\
+    perform 1 5\n\
+    reply ann.1.3\n";
+
+/// A thread of ann's first process asks for the attributes behind a connection.
+fn asks(running: &mut Running, tid: u8, coid: u8) -> Result<(), LinesFault> {
+    let thread = thread_of_ann(tid);
+    let request = Request::Fstat { coid: Coid(coid) };
+    take(running, Step::Call { thread, request })
+}
+
+/// The manager that is next is served by worker 1, and the thread takes its answer.
+fn serves_next(running: &mut Running, tid: u8) -> Result<Option<Manager>, LinesFault> {
+    let Some(manager) = running.next_manager() else {
+        return Ok(None);
+    };
+    let (worker, moment) = (Worker(1), 6);
+    take(running, Step::Receive { worker, manager })?;
+    take(running, Step::Perform { worker, moment })?;
+    take(
+        running,
+        Step::TakeReply {
+            thread: thread_of_ann(tid),
+        },
+    )?;
+    Ok(Some(manager))
+}
+
+fn thread_of_ann(tid: u8) -> Thread {
+    let proc = Proc {
+        user: User(1),
+        num: 1,
+    };
+    Thread { proc, tid }
+}
+
+fn take(running: &mut Running, step: Step) -> Result<(), LinesFault> {
+    match running.take(step) {
+        Ok(_) => Ok(()),
+        Err(_) => Err(LinesFault::NoMemory),
+    }
+}
+
+/// Two lines of one priority are served in turn, though before each an item of a higher priority is, which comes behind both by
+/// number: their turn does not move by it.
+#[test]
+fn equals_take_turns_behind_a_flood(rt: HostRuntime) -> Result<(), LinesFault> {
+    let mut running = ran_on(rt.alloc(), 0, THREE_CONNECTIONS)?;
+    asks(&mut running, 1, 3)?;
+    asks(&mut running, 2, 4)?;
+    for _ in 0..50_000u32 {
+        for (tid, coid, manager) in [(1, 3, Manager::Ram), (2, 4, Manager::Pipe)] {
+            asks(&mut running, 3, 5)?;
+            assert!(rt; serves_next(&mut running, 3)? == latches());
+            assert!(rt; serves_next(&mut running, tid)? == Some(manager));
+            asks(&mut running, tid, coid)?;
+        }
+    }
     Ok(())
 }
