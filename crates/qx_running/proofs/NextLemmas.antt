@@ -1,13 +1,11 @@
 -- Managers one by one, and whether one of them is next.
-use Rattle.std.proofs.Common.{◌≡◌, ◌∙◌, ◌∷◌, ◌++◌, ◌+◌, ◌<◌, ◌≤◌, ◌||◌, ◌&&◌, ◌==◌, [], List, ℕ, zero, suc, Bool, true, false, Option, Some, None, cond, length, drop, take, max, find, is_some, slice_get, option_map, option_to_list, nat_lt, refl, ap, ap₂, sym, inl, inr, arith, length-take, take-append-drop, lt-ltb, eq-eqb, ne_eqb}
+use Rattle.std.proofs.Common.{◌≡◌, ◌∙◌, ◌∷◌, ◌++◌, ◌+◌, ◌<◌, ◌||◌, ◌&&◌, ◌==◌, [], List, ℕ, zero, suc, Bool, true, false, Option, Some, None, cond, length, drop, take, max, find, is_some, slice_get, option_map, nat_lt, refl, ap, ap₂, sym, inl, inr, arith, take-append-drop, lt-ltb, eq-eqb, ne_eqb}
 use Rattle.std.specs.List.{list_any}
 use Rattle.std.specs.Option.{option_or}
 use Rattle.std.proofs.lemmas.Bool.{cases_eq, cases_lt}
 use Rattle.std.proofs.lemmas.Bool.Decides.{nat_tests}
-use Rattle.std.proofs.lemmas.List.{drop_all, take_all}
-use Rattle.qx_types.proofs.Managers.{count_managers}
 use Rattle.std.proofs.lemmas.List.Folds.{find-append, list_any-append}
-use Rattle.qx_types.specs.Managers.{manager_count, managers}
+use Rattle.qx_types.specs.Managers.{managers}
 use Rattle.qx_types.specs.declared.names.Manager.{Manager}
 use Rattle.qx_isolation.specs.declared.rows.Queued.{Queued}
 use Rattle.qx_machine.specs.Machine.{World, line_of}

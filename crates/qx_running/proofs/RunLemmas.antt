@@ -1,5 +1,5 @@
 -- A run, one step longer.
-use Rattle.std.proofs.Common.{◌≡◌, ◌∙◌, ◌∷◌, ◌++◌, ◌+◌, ◌-◌, ◌^◌, [], List, ℕ, zero, suc, Option, Some, None, length, drop, min, refl, ap, sym, arith, length-append, length-drop, drop-drop}
+use Rattle.std.proofs.Common.{◌≡◌, ◌∙◌, ◌∷◌, ◌++◌, ◌+◌, ◌-◌, ◌^◌, [], List, ℕ, zero, suc, Option, Some, None, length, drop, min, replicate, refl, ap, sym, arith, length-append, length-drop, drop-drop}
 use Rattle.std.specs.Prelude.{option_map}
 use Rattle.std.proofs.lemmas.List.{drop-append-le}
 use Rattle.circular_buffer.specs.Buffer.{Buffer, buffer, keep_last}
@@ -14,6 +14,7 @@ use Rattle.qx_types.specs.Cut.{bytes_of_outcome, bytes_of_step, cut_outcome, cut
 use Rattle.qx_world.specs.Steps.{IsReached}
 use Rattle.qx_running.specs.Running.{Now, CameBy, IsOfRun, next, recorded, recorded_from, turn_by, with_turn, world_by}
 use Rattle.qx_running.specs.declared.running.Recorded.{Recorded}
+use Rattle.qx_running.specs.declared.running.TheConstants.{URGENCIES}
 use Rattle.qx_running.specs.inner.Running.{now_of}
 
 -- no step yet
@@ -22,7 +23,7 @@ none_dropped : (n : ℕ) (none : List Recorded) → none ≡ [] → none ≡ dro
 none_dropped zero none is = is
 none_dropped (suc n) none is = is
 
-pub run_begins : (world : World) (recorder : Buffer Recorded) → IsReached world → recorder.items ≡ [] → IsOfRun (now_of world recorder 0 0)
+pub run_begins : (world : World) (recorder : Buffer Recorded) → IsReached world → recorder.items ≡ [] → IsOfRun (now_of world recorder 0 (replicate URGENCIES 0))
 run_begins world recorder reached empty = (reached.0, [], record { world = reached.1; last = none_dropped (0 - recorder.capacity) recorder.items empty; taken = refl })
 
 -- one step more

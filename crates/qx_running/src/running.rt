@@ -223,7 +223,7 @@ impl Running {
         let mut number = from;
         'managers: for _ in 0..Manager::count() {
             let manager = self.world.next_from(number)?;
-            if most > 0 && urgency(&self.world, manager) == most {
+            if is_urgent(&self.world, manager, most) {
                 return Some(manager);
             }
             number = manager.number() + 1;
@@ -311,6 +311,13 @@ fn urgency(world: &World, manager: Manager) -> u16
         Some(prio) => prio.0 as u16 + 1,
         None => 0,
     }
+}
+
+/// Whether an item waits for a manager, and its line is as urgent as that.
+fn is_urgent(world: &World, manager: Manager, most: u16) -> bool
+    ensures { result ≡ is_as_urgent world.now most manager }
+{
+    most > 0 && urgency(world, manager) == most
 }
 
 /// Whose turn a step makes it, and among the managers of which urgency; none where it is no receive.
