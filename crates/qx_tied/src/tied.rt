@@ -16,7 +16,6 @@ use crate::seat::{OfRun, Seat};
 use crate::ties::Ties;
 use crossbeam_utils::CachePadded;
 use qx_running::{PIECE, Piece, Running};
-use qx_tied::{Front, Opened};
 use qx_types::{Manager, Outcome, Step, Worker};
 use qx_world::{PerformFault, Unstored, Work, World};
 use std::alloc::{AllocError, Global};
