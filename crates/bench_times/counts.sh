@@ -9,7 +9,7 @@ export GLIBC_TUNABLES=glibc.cpu.x86_rep_stosb_threshold=1000000:glibc.cpu.x86_re
 file=$(mktemp)
 trap 'rm -f "$file"' EXIT
 
-count() { valgrind --tool=callgrind --callgrind-out-file=/dev/null out/times "$@" 2>&1 | sed -n 's/.*Collected : //p'; }
+count() { valgrind --tool=callgrind --callgrind-out-file=/dev/null out/bench_times "$@" 2>&1 | sed -n 's/.*Collected : //p'; }
 round() { echo "$(($(count "${@:2}" $(($1 * 3))) - $(count "${@:2}" "$1"))) $(($1 * 2))" | awk '{ printf "%.0f\n", $1 / $2 }'; }
 calls() { echo "${*:2}: $(round "$@")"; }
 script() { bash scripts.sh "${@:2}" >"$file"; echo "${*:2}: $(round "$1" script "$file")"; }

@@ -10,7 +10,7 @@ trap 'rm -f "$file" "$file.heap"' EXIT
 
 # The greatest heap, without what the C library has beside what is asked for.
 heap() {
-  valgrind --tool=massif --peak-inaccuracy=0.0 --massif-out-file="$file.heap" out/times script "$file" 0 >/dev/null 2>&1
+  valgrind --tool=massif --peak-inaccuracy=0.0 --massif-out-file="$file.heap" out/bench_times script "$file" 0 >/dev/null 2>&1
   sed -n 's/mem_heap_B=//p' "$file.heap" | sort -n | tail -1
 }
 # What KIND takes with these limits.

@@ -1,5 +1,5 @@
 #!/usr/bin/env bash
-# Writes a script for `times`: bash scripts.sh NAME WORDS..
+# Writes a script for `bench_times`: bash scripts.sh NAME WORDS..
 set -euo pipefail
 
 names=(a b c d e f g h i j k l m n o p)
