@@ -6,3 +6,5 @@ mod PieceLemmas
 mod RunLemmas
 -- what is read of recorded steps
 pub mod ToldLemmas
+-- lines that are as urgent take turns
+mod TurnLemmas

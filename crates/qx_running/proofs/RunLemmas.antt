@@ -66,8 +66,8 @@ kept_of owner e outcome = record { owner = owner; entry = record { step = cut_st
 -- a step that was taken and recorded makes the run that is next
 pub is_next : (world : World) (recorder : Buffer Recorded) (taken : ℕ) (turns : List ℕ) (e : Step) (owner : Option User) (outcome : Outcome) (world_then : World) (recorder_then : Buffer Recorded) (taken_then : ℕ) (turns_then : List ℕ) →
     option_map (λ user. user.0) owner ≡ machine.owner world e → outcome ≡ (step world e).outcome → world_then ≡ (step world e).world →
-    recorder_then ≡ buffer (keep_last recorder.capacity (recorder.items ++ kept_of owner e outcome ∷ [])) recorder.capacity → taken_then ≡ min (taken + 1) (2 ^ 64 - 1) → turns_then ≡ with_turn turns (turn_by world e) →
+    recorder_then ≡ buffer (keep_last recorder.capacity (recorder.items ++ kept_of owner e outcome ∷ [])) recorder.capacity → taken_then ≡ min (taken + 1) (2 ^ 64 - 1) → turns_then ≡ with_turn turns (turn_by world e) outcome →
     now_of world_then recorder_then taken_then turns_then ≡ next (now_of world recorder taken turns) e
 is_next world recorder taken turns e owner outcome world_then recorder_then taken_then turns_then owner_is outcome_is world_is recorder_is taken_is turn_is =
     let kept : kept_of owner e outcome ≡ recorded world e = (λ i. kept_of (same_owner owner (machine.owner world e) owner_is i) e (outcome_is i)) in
-    (λ i. now_of (world_is i) (recorder_is i) (taken_is i) (turn_is i)) ∙ (λ i. now_of (step world e).world (buffer (keep_last recorder.capacity (recorder.items ++ kept i ∷ [])) recorder.capacity) (min (taken + 1) (2 ^ 64 - 1)) (with_turn turns (turn_by world e)))
+    (λ i. now_of (world_is i) (recorder_is i) (taken_is i) (turn_is i)) ∙ (λ i. now_of (step world e).world (buffer (keep_last recorder.capacity (recorder.items ++ kept i ∷ [])) recorder.capacity) (min (taken + 1) (2 ^ 64 - 1)) (with_turn turns (turn_by world e) (outcome_is i)))

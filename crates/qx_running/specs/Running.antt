@@ -1,9 +1,11 @@
 -- A run that goes on with no list of its steps: its world, the last steps, which manager is next, and which steps are read.
-use Rattle.std.specs.Prelude.{◌≡◌, ℕ, ◌+◌, ◌-◌, ◌^◌, ◌==◌, ◌&&◌, Bool, List, [], ◌∷◌, ◌++◌, Option, Some, None, drop, find, length, max, min, nat_lt, option_map, replicate, slice_get, slice_set, take, get_or}
+use Rattle.std.specs.Prelude.{◌≡◌, ℕ, ◌+◌, ◌-◌, ◌^◌, ◌==◌, ◌&&◌, Bool, List, [], ◌∷◌, ◌++◌, Option, Some, None, drop, find, length, max, min, nat_le, nat_lt, option_map, replicate, slice_get, slice_set, take, get_or, if◌then◌else◌}
 use Rattle.circular_buffer.specs.Buffer.{keep_last}
-use Rattle.qx_types.specs.Managers.{manager_number, managers}
+use Rattle.qx_types.specs.Managers.{manager_count, manager_number, managers}
 use Rattle.qx_types.specs.declared.names.Manager.{Manager}
 use Rattle.qx_types.specs.declared.names.Prio.{Prio}
+use Rattle.qx_types.specs.declared.outcome.Outcome.{Outcome}
+use Rattle.qx_types.specs.declared.outcome.Outcome.TheVariants.{Took}
 use Rattle.qx_types.specs.declared.step.Step.{Step}
 use Rattle.qx_types.specs.declared.step.Step.TheVariants.{Receive}
 use Rattle.qx_machine.specs.Machine.{World, line_of, owner, step}
@@ -63,15 +65,17 @@ urgency_of (Some prio) = prio.0 + 1
 abbrev pub urgency : World → Manager → ℕ
 urgency w manager = urgency_of (option_map (λ first. first.prio) (slice_get (line_of w manager) 0))
 
--- whose turn a step makes it, and among the managers of which urgency: a receive's manager comes last of those whose lines are as urgent as
--- its own was
+-- whose turn a receive makes it that takes an item, and among the managers of which urgency: its manager comes last of those whose
+-- lines are as urgent as its own was
 abbrev pub turn_by : World → Step → Option (ℕ × ℕ)
 turn_by w (Receive worker manager) = Some (urgency w manager, manager_number manager + 1)
 turn_by w _ = None
 
-abbrev pub with_turn : List ℕ → Option (ℕ × ℕ) → List ℕ
-with_turn turns None = turns
-with_turn turns (Some by) = slice_set turns by.0 by.1
+-- a step with an outcome moves a turn only where it took an item
+abbrev pub with_turn : List ℕ → Option (ℕ × ℕ) → Outcome → List ℕ
+with_turn turns None outcome = turns
+with_turn turns (Some by) (Took item) = slice_set turns by.0 by.1
+with_turn turns (Some by) _ = turns
 
 -- after one step more
 abbrev pub next : Now → Step → Now
@@ -80,7 +84,7 @@ next now e = record {
   last = keep_last now.room (now.last ++ recorded now.world e ∷ []);
   room = now.room;
   taken = min (now.taken + 1) (2 ^ 64 - 1);
-  turns = with_turn now.turns (turn_by now.world e);
+  turns = with_turn now.turns (turn_by now.world e) (step now.world e).outcome;
 }
 
 -- ---- the next manager
@@ -102,6 +106,10 @@ in_turn w turn = find (is_as_urgent w (greatest_urgency w managers)) (drop turn 
 -- is; none where all lines are empty
 abbrev pub next_manager : World → List ℕ → Option Manager
 next_manager w turns = in_turn w (get_or turns (greatest_urgency w managers) 0)
+
+-- how many managers have their turn before one, from a turn on
+abbrev pub stand_before : ℕ → Manager → ℕ
+stand_before turn manager = if nat_le turn (manager_number manager) then manager_number manager - turn else manager_count - turn + manager_number manager
 
 -- ---- reading
 

@@ -138,7 +138,7 @@ impl Running {
         let Ok(outcome) = self.world.step(&step) else {
             return Err(Unstored { step });
         };
-        set_turn(&mut self.turns, turn);
+        set_turn(&mut self.turns, turn, &outcome);
         self.taken = self.taken.saturating_add(1);
         record(self.alloc, &mut self.recorder, owner, step, &outcome);
         Ok(outcome)
@@ -176,9 +176,8 @@ impl Running {
     }
 
     /// The manager whose line a worker serves next: that in which the first item has the highest priority, and of several such
-    /// the one whose turn it is: the first one by number, from behind that on which was received last of lines that were as
-    /// urgent, and then from the first manager on; none where all lines are empty (this profile). So of lines that stay as
-    /// urgent each is served before another one is served twice.
+    /// the one whose turn it is: the first one by number, from behind that on from which an item was taken last of lines that
+    /// were as urgent, and then from the first manager on; none where all lines are empty (this profile).
     pub fn next_manager(&self) -> Option<Manager>
         ensures next { result ≡ next_manager self.now.world self.now.turns }
         ensures some { is_some result ≡ is_some (reads.next_manager self.now.world) }
@@ -320,7 +319,7 @@ fn is_urgent(world: &World, manager: Manager, most: u16) -> bool
     most > 0 && urgency(world, manager) == most
 }
 
-/// Whose turn a step makes it, and among the managers of which urgency; none where it is no receive.
+/// Whose turn a receive makes it that takes an item, and among the managers of which urgency; none where it is no receive.
 fn turn_by(world: &World, step: &Step) -> Option<(usize, u8)>
     ensures { result ≡ turn_by world.now step.now }
 {
@@ -335,14 +334,16 @@ fn turn_by(world: &World, step: &Step) -> Option<(usize, u8)>
     }
 }
 
-/// Among the managers of an urgency it is this one's turn.
-fn set_turn(turns: &mut [u8; URGENCIES], by: Option<(usize, u8)>)
-    ensures { turns.new ≡ with_turn turns.old by }
+/// A step that took an item makes it this manager's turn among those of an urgency.
+fn set_turn(turns: &mut [u8; URGENCIES], by: Option<(usize, u8)>, outcome: &Outcome)
+    ensures { turns.new ≡ with_turn turns.old by outcome.now }
 {
     let Some((urgency, turn)) = by else {
         return;
     };
-    if urgency < URGENCIES {
-        turns[urgency] = turn;
+    if let Outcome::Took(_) = outcome {
+        if urgency < URGENCIES {
+            turns[urgency] = turn;
+        }
     }
 }
