@@ -28,13 +28,15 @@ use Rattle.qx_isolation.specs.Lines.{line_at, with_line}
 use Rattle.qx_machine.specs.Machine.{line_without, lines_after, changed_manager, line_after}
 use Rattle.qx_machine.specs.Parts.{Change, Remove, disconnect, thread_of}
 use Rattle.qx_machine.specs.Pipes.{Pipe}
-use Rattle.qx_machine.specs.Processes.{Process, ended, has_ended, living, lost_servers, received_by}
+use Rattle.qx_machine.specs.Processes.{Process, ended, has_ended, living, lost_servers, received_by, servers_at}
+use Rattle.qx_machine.specs.Servers.{in_use}
 use Rattle.qx_isolation.specs.Rows.{row_at, with_row}
 use Rattle.qx_machine.specs.Waiting.{Pipes, is_of_process, no_pipes}
 use Rattle.std.proofs.lemmas.Grind.{flat_map-append}
 use Rattle.std.proofs.Math.Bool.{and-not_self}
 use Rattle.qx_isolation.proofs.Places.{at-map}
-use Rattle.qx_process.specs.Reads.{LosesAll, is_at}
+use Rattle.qx_process.specs.Reads.{LosesAll, is_at, is_served, named, used_servers}
+use Rattle.qx_process.proofs.EndLemmas.{each-used, used-listed, used-placed}
 use Rattle.qx_queues.specs.Queues.{stands, unblock_call}
 use Rattle.qx_queues.proofs.EntryLemmas.{line_at-other, line_at-same}
 use Rattle.qx_queues.proofs.LineLemmas.{call-replied_other, call-withdrawn, replied-none, stands-replied, stands-withdrawn_other}
@@ -328,8 +330,8 @@ module _ (users : Users) (proc : Proc) (process : Process) (there : process_of u
   elsewhere other differs = process_of-other users proc (λ rows. with_row rows proc.num ended) (λ rows is n apart. row_at-with_other rows proc.num n ended apart) other differs
 
   -- what it has lost
-  pub loses-all : (now : Users) → now ≡ with_process_of users proc ended → (lost : List (Option ServerName)) → EndsAt lost (process_of users proc) (process_of now proc) → LosesAll lost process (ended process)
-  loses-all now is lost ends = subst (EndsAt lost (Some process)) (ap (λ all. process_of all proc) is ∙ here) (subst (λ row. EndsAt lost row (process_of now proc)) there ends)
+  pub loses-all : (now : Users) → now ≡ with_process_of users proc ended → EndsAt (process_of users proc) (process_of now proc) → LosesAll process (ended process)
+  loses-all now is ends = subst (EndsAt (Some process)) (ap (λ all. process_of all proc) is ∙ here) (subst (λ row. EndsAt row (process_of now proc)) there ends)
 
   nodes-ended : (thread : Thread) → nodes_for new thread ≡ nodes_for users thread
   nodes-ended thread = elim (same_proc thread.proc proc) [
@@ -435,12 +437,32 @@ module _ (users : Users) (proc : Proc) (process : Process) (there : process_of u
       answered = ap (λ (q : Shared). q.answered) dropped_so.queues ∙ kept.answered;
     }
 
-    module _ (lost : List (Option ServerName)) (loses : LosesAll lost process (ended process)) where
+    abbrev lost : List (Option ServerName)
+    lost = used_servers process
+
+    node-here : (manager : Manager) → has_disconnect_node left proc (manager_number manager) ≡ is_served manager process
+    node-here manager = ap (λ (q : Shared). has_disconnect_node q proc (manager_number manager)) dropped_so.queues ∙ kept.servers proc manager ∙ ap (served_at manager) there
+
+    -- each server connection that is lost has its disconnect node
+    pub all-there : AllHaveNodes left proc lost
+    all-there = record {
+      there = each-used process (λ number server. IsTrue (has_disconnect_node left proc (manager_number server.manager))) (λ manager. used manager (in_use (servers_at manager process)) refl);
+      apart = λ one other server second differs is after same. differs (sym (placed one server is) ∙ same ∙ placed other second after);
+    }
+      where
+        used : (manager : Manager) (number : Option ℕ) → in_use (servers_at manager process) ≡ number → IfSome (option_map (named manager) number) (λ server. IsTrue (has_disconnect_node left proc (manager_number server.manager)))
+        used manager None is = tt
+        used manager (Some number) is = node-here manager ∙ ap is_some is
+
+        placed : (number : ℕ) (server : ServerName) → row_at lost number ≡ Some server → manager_number server.manager ≡ number
+        placed number server is = subst (λ row. IfSome row (λ own. manager_number own.manager ≡ number)) is (used-placed process number)
+
+    module _ (loses : LosesAll process (ended process)) where
       abbrev servers : List ServerName
       servers = flat_map option_to_list lost
 
       node-before : (manager : Manager) → has_disconnect_node left proc (manager_number manager) ≡ list_any (is_at manager) lost
-      node-before manager = ap (λ (q : Shared). has_disconnect_node q proc (manager_number manager)) dropped_so.queues ∙ kept.servers proc manager ∙ ap (served_at manager) there ∙ loses.uses manager
+      node-before manager = node-here manager ∙ used-listed process manager
 
       pub Kept-ended : StandTogether (with_process_of users proc ended) (with_lost proc (flat_map option_to_list lost) left)
       Kept-ended = Kept-beside new (with_lost proc servers left) proc (beside-lost new proc servers left beside-ended) (λ manager.

@@ -32,9 +32,9 @@ impl Channel {
         let queues = &mut self.tables.shared;
         drop_all_items(queues, &self.users, proc, process.places());
         queues.abandon(proc);
+        servers::disconnect_all(queues, proc, process);
         self.tables.events.clear(proc);
-        let lost = self.users.end(alloc, proc);
-        servers::disconnect_all(&mut self.tables.shared, proc, lost);
+        self.users.end(alloc, proc);
         Outcome::Done
     }
 

@@ -4,13 +4,14 @@ ghost use Rattle.std.specs.Prelude.{◌≡◌, ◌≤◌, IfSome, IsFalse, IsOk,
 ghost use Rattle.std.specs.List.{flat_map};
 ghost use Rattle.std.specs.Option.{option_to_list};
 ghost use Rattle.qx_types.specs.Managers.{manager_number};
+ghost use Rattle.qx_process.specs.Reads.{used_servers};
 ghost use Rattle.qx_shared.specs.Shared.{HasThread, has_disconnect_node};
 ghost use Rattle.qx_chan.specs.inner.Ending.{AllHaveNodes};
 ghost use Rattle.qx_chan.specs.inner.Kept.{with_attached, with_lost, with_room};
 ghost use Rattle.qx_chan.specs.Nodes.{attaches};
 
 use qx_machine::{Over, ServerName, Target};
-use qx_process::{LostServers, Process};
+use qx_process::Process;
 use qx_shared::Shared;
 use qx_types::{Manager, Proc};
 use std::alloc::AllocError;
@@ -46,14 +47,15 @@ pub fn attach(queues: &mut Shared, process: &Process, proc: Proc, target: Target
     }
 }
 
-/// The disconnect pulses of a process that has lost these server connections go into their managers' lines.
-pub fn disconnect_all(queues: &mut Shared, proc: Proc, lost: LostServers)
-    requires there { AllHaveNodes queues.old proc lost.items }
-    ensures disconnected { queues.new ≡ with_lost proc (flat_map option_to_list lost.items) queues.old }
+/// The disconnect pulses of a process that ends, one for each server connection that it uses, go into their managers' lines.
+pub fn disconnect_all(queues: &mut Shared, proc: Proc, process: &Process)
+    requires there { AllHaveNodes queues.old proc (used_servers process.now) }
+    ensures disconnected { queues.new ≡ with_lost proc (flat_map option_to_list (used_servers process.now)) queues.old }
 {
-    let all = lost.as_slice();
-    for number in 0..all.len() {
-        disconnect(queues, proc, all[number]);
+    for number in 0..Manager::count() {
+        if let Some(manager) = Manager::of_number(number) {
+            disconnect(queues, proc, process.used_server(manager));
+        }
     }
 }
 

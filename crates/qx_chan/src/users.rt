@@ -17,7 +17,7 @@ ghost use Rattle.qx_chan.specs.Users.{no_processes, process_of, thread_row, with
 use qx_clients::Processes;
 use qx_hint::as_mut_unchecked;
 use qx_machine::{Over, ServerName};
-use qx_process::{LostServers, Process, ThreadCell};
+use qx_process::{Process, ThreadCell};
 use qx_rows::{Room, places};
 use qx_types::{Answer, Errno, Manager, Prio, Proc, Thread, User, UserLimits};
 use std::alloc::{AllocError, Global};
@@ -208,15 +208,14 @@ impl Users {
             .fail(thread.tid, over, error, room)
     }
 
-    /// A process ends; gives the server connections that it has lost with that.
+    /// A process ends, and loses the server connections that it used.
     #[tactic(auto, using(crate::proofs::ProcessLemmas::lends))]
-    pub fn end(&mut self, alloc: Global, proc: Proc) -> LostServers
+    pub fn end(&mut self, alloc: Global, proc: Proc)
         ensures ended { self.new ≡ with_process_of self.old proc ended }
-        ensures lost { EndsAt result.items (process_of self.old proc) (process_of self.new proc) }
+        ensures lost { EndsAt (process_of self.old proc) (process_of self.new proc) }
     {
-        match self.process_mut(proc) {
-            Some(process) => process.end(alloc),
-            None => LostServers::default(),
+        if let Some(process) = self.process_mut(proc) {
+            process.end(alloc);
         }
     }
 

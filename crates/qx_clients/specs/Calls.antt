@@ -1,7 +1,5 @@
 -- How calls on a user's processes are judged, and what the processes are then.
-use Rattle.std.specs.Prelude.{ℕ, ◌≡◌, Bool, false, List, [], Option, Some, None, Result, Ok, Err}
-use Rattle.std.specs.List.{flat_map}
-use Rattle.std.specs.Option.{option_to_list}
+use Rattle.std.specs.Prelude.{ℕ, ◌≡◌, Bool, false, List, Option, Some, None, Result, Ok, Err, ⊤}
 use Rattle.qx_types.specs.declared.outcome.Outcome.{Outcome}
 use Rattle.qx_types.specs.declared.outcome.Outcome.TheVariants.{Spawned, Done, WrongState}
 use Rattle.qx_isolation.specs.declared.rows.ServerName.{ServerName}
@@ -56,8 +54,8 @@ LosesAt lost None None = lost ≡ None
 LosesAt lost (Some before) (Some after) = Loses lost before after
 LosesAt lost _ _ = ⊥
 
--- the process under a number has ended, and has lost those server connections; where no process is there, none is lost
-abbrev pub EndsAt : List (Option ServerName) → Option Process → Option Process → Type 0
-EndsAt lost None None = flat_map option_to_list lost ≡ []
-EndsAt lost (Some before) (Some after) = LosesAll lost before after
-EndsAt lost _ _ = ⊥
+-- the process under a number has ended, and has lost each server connection that it used, if it is there
+abbrev pub EndsAt : Option Process → Option Process → Type 0
+EndsAt None None = ⊤
+EndsAt (Some before) (Some after) = LosesAll before after
+EndsAt _ _ = ⊥

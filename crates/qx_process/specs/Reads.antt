@@ -1,8 +1,8 @@
 -- What rows are asked.
-use Rattle.std.specs.Prelude.{ℕ, [], ◌≡◌, ◌≢◌, ◌<◌, ◌≤◌, ◌==◌, ◌&&◌, Bool, true, false, not, List, Option, Some, None, IfSome, IsSome, is_some, ⊤}
-use Rattle.std.specs.List.{flat_map, list_any}
+use Rattle.std.specs.Prelude.{ℕ, [], ◌≡◌, ◌≢◌, ◌<◌, ◌≤◌, ◌==◌, ◌&&◌, Bool, true, false, not, List, Option, Some, None, IfSome, IsSome, is_some, map, option_map, ⊤}
+use Rattle.std.specs.List.{flat_map}
 use Rattle.std.specs.Option.{option_to_list}
-use Rattle.qx_types.specs.Managers.{manager_number}
+use Rattle.qx_types.specs.Managers.{manager_number, managers}
 use Rattle.qx_types.specs.declared.limits.TheConstants.Limits.{CALLS, LAST_CONNECTION, SERVERS}
 use Rattle.qx_types.specs.declared.outcome.Answer.{Answer}
 use Rattle.qx_machine.specs.declared.rows.Over.{Over}
@@ -140,10 +140,14 @@ pub record Loses (lost : Option ServerName) (before after : Process) : Type 0 wh
   pub was_used : IfSome lost (λ server. is_served server.manager before ≡ true)
   pub uses : (manager : Manager) → is_served manager after ≡ (is_served manager before && not (is_at manager lost))
 
--- a process has lost those server connections, under the numbers of their managers, and none is in use any more
-pub record LosesAll (lost : List (Option ServerName)) (before after : Process) : Type 0 where
-  pub lost_are : flat_map option_to_list lost ≡ lost_servers before after
-  pub places : (number : ℕ) → IfSome (row_at lost number) (λ server. manager_number server.manager ≡ number)
-  pub were_used : (number : ℕ) → IfSome (row_at lost number) (λ server. is_served server.manager before ≡ true)
-  pub uses : (manager : Manager) → is_served manager before ≡ list_any (is_at manager) lost
+-- the server connection in use at a manager, and those at all managers
+abbrev pub used_at : Process → Manager → Option ServerName
+used_at process manager = option_map (named manager) (in_use (servers_at manager process))
+
+abbrev pub used_servers : Process → List (Option ServerName)
+used_servers process = map (used_at process) managers
+
+-- a process has lost each server connection that it used, and none is in use any more
+pub record LosesAll (before after : Process) : Type 0 where
+  pub lost_are : flat_map option_to_list (used_servers before) ≡ lost_servers before after
   pub unserved : (manager : Manager) → is_served manager after ≡ false

@@ -14,5 +14,4 @@ pub mod thread;
 mod threads;
 
 pub use process::Process;
-pub use servers::LostServers;
 pub use thread::{Replied, ThreadCell};

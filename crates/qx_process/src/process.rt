@@ -8,10 +8,10 @@ ghost use Rattle.qx_machine.specs.Performing.{client_at};
 ghost use Rattle.qx_machine.specs.Processes as machine;
 ghost use Rattle.qx_machine.specs.Processes.{answered_thread, servers_at, with_thread};
 ghost use Rattle.qx_isolation.specs.Rows.{row_at, lowest_from};
-ghost use Rattle.qx_process.specs.Reads.{AwaitsReply, BringsRoom, CanAttach, CanCall, CanGo, HasNumber, HasPlace, IsPriority, Loses, LosesAll, Uses, UsesBy, bytes_received, has_own_room, is_served};
+ghost use Rattle.qx_process.specs.Reads.{AwaitsReply, BringsRoom, CanAttach, CanCall, CanGo, HasNumber, HasPlace, IsPriority, Loses, LosesAll, Uses, UsesBy, bytes_received, has_own_room, is_served, used_at};
 
 use crate::connections::{self, Connections};
-use crate::servers::{self, AllServers, LostServers, Sides};
+use crate::servers::{self, AllServers, Sides};
 use crate::thread::{Replied, ThreadCell};
 use crate::threads::{self, Held, PLACES, Threads};
 use arrayvec::ArrayVec;
@@ -132,6 +132,14 @@ impl Process {
         servers::servers_at(&self.servers, manager)
             .in_use()
             .is_some()
+    }
+
+    /// The server connection in use at a manager, if one is.
+    pub fn used_server(&self, manager: Manager) -> Option<ServerName>
+        ensures used { result ≡ used_at self.now manager }
+    {
+        let number = servers::servers_at(&self.servers, manager).in_use()?;
+        Some(ServerName { manager, number })
     }
 
     /// How many server connections there are at a manager, those whose disconnect pulse was made among them.
@@ -379,16 +387,15 @@ impl Process {
     }
 
     /// The process ends: its threads go, with their answers and rooms, and its connections, and what workers hold of its messages
-    /// is kept (C Library Reference: `_exit`). Gives the server connections that the process has lost with that, for which
-    /// their disconnect pulses are to be made.
-    pub fn end(&mut self, alloc: Global) -> LostServers
+    /// is kept (C Library Reference: `_exit`). The server connections that it used are lost with that.
+    pub fn end(&mut self, alloc: Global)
         ensures process { self.new ≡ machine.ended self.old }
-        ensures lost { LosesAll result.items self.old self.new }
+        ensures lost { LosesAll self.old self.new }
     {
         self.held = threads::end(&mut self.threads, alloc);
         self.connections.clear();
         self.sides = [None; PLACES];
-        servers::leave(&mut self.servers)
+        servers::leave(&mut self.servers);
     }
 
     /// What a message goes over is attached.

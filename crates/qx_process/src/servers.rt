@@ -7,7 +7,7 @@ ghost use Rattle.qx_types.specs.Managers.{manager_count, manager_number};
 ghost use Rattle.qx_types.specs.declared.limits.TheConstants.Limits.{SERVERS};
 ghost use Rattle.qx_types.specs.declared.names.Manager.{Manager as TheManager};
 ghost use Rattle.qx_isolation.specs.Lines.{line_at, with_line};
-ghost use Rattle.qx_isolation.specs.Rows.{lowest_from, put_row, row_at};
+ghost use Rattle.qx_isolation.specs.Rows.{lowest_from, put_row};
 ghost use Rattle.qx_machine.specs.Servers as machine;
 ghost use Rattle.qx_process.specs.Reads.{HasPlace, named};
 
@@ -21,9 +21,6 @@ use std::marker::Model;
 
 /// A place for each number up to the last; place 0 is no server connection's.
 const PLACES: usize = Limits::SERVERS + 1;
-
-/// Room for each manager that there can be.
-const MANAGERS: usize = Manager::MOST;
 
 /// The server connections of a process at one manager.
 #[derive(Drop)]
@@ -46,9 +43,6 @@ impl Model for Servers {
 
 /// Those at each manager.
 pub type AllServers = Vec<Servers>;
-
-/// The server connection that was lost at each manager, under its number.
-pub type LostServers = ArrayVec<Option<ServerName>, MANAGERS>;
 
 /// At which manager each thread has a side connection.
 pub type Sides = [Option<Manager>; threads::PLACES];
@@ -180,20 +174,13 @@ pub fn settle(servers: &mut AllServers, manager: Manager, is_attached: bool) -> 
     Some(ServerName { manager, number })
 }
 
-/// Those in use at all managers are left, and are given.
-pub fn leave(servers: &mut AllServers) -> LostServers
-    requires all { length servers.old.items ≡ manager_count }
-    ensures places { length result.items ≡ manager_count }
+/// Those in use at all managers are left.
+pub fn leave(servers: &mut AllServers)
     ensures left { servers.new.items ≡ map (map (option_map machine.leaving)) servers.old.items }
-    ensures lost { (manager : TheManager) → row_at result.items (manager_number manager) ≡ option_map (named manager) (machine.in_use (line_at servers.old.items (manager_number manager))) }
 {
-    let mut lost = ArrayVec::new();
     for number in 0..servers.len() {
-        if let Some(manager) = Manager::of_number(number) {
-            lost.push(settle(servers, manager, false));
-        }
+        servers[number].leave();
     }
-    lost
 }
 
 /// Whether there is a server connection at any manager.

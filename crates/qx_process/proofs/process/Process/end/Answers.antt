@@ -10,4 +10,4 @@ pub returns-clause-process : goal.returns-clause-process
 returns-clause-process c = rw (← c.self.view_is, c.end.ensures.held, c.end.ensures.gone, c.clear.ensures, c.leave.ensures.left, all-left 0 c.self.inside.servers.items) refl
 
 pub returns-clause-lost : goal.returns-clause-lost
-returns-clause-lost c = rw (← c.self.view_is) (loses-all _ _ c.self.invariant.1 c.leave.ensures.left c.leave.result.items c.leave.ensures.places c.leave.ensures.lost)
+returns-clause-lost c = rw (← c.self.view_is) (loses-all _ _ c.self.invariant.1 c.leave.ensures.left)
