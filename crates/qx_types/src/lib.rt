@@ -10,7 +10,7 @@
 //! - `flags.rt`: the flags of an open; the conditions of a notification
 //! - `fields.rt`: where a seek counts from; what a notification is to do, and the value of its pulse
 //! - `cut.rt`: steps and outcomes, cut to what a recorder keeps of them
-//! - `nodes.rt`: what a value has to tell to stand in a line, or to wait in a pipe
+//! - `nodes.rt`: what a value has to tell to stand in a line
 //!
 //! `Bytes`, `MessageBytes` and `Errno` are those of `qx_base`, handed on.
 #![tactic(auto)]
@@ -36,7 +36,7 @@ pub use flags::{Conds, OFlags};
 pub use limits::Limits;
 pub use names::{Actor, Coid, Item, Manager, Prio, Proc, Thread, User, Worker};
 pub use no_memory::NoMemory;
-pub use nodes::{Ranked, Waiter};
+pub use nodes::Ranked;
 pub use out_of_range::OutOfRange;
 pub use outcome::{Answer, Outcome};
 pub use qx_base::{Bytes, Errno, MessageBytes};

@@ -1,10 +1,11 @@
+use Rattle.qx_machine.specs.Waiting.{is_gone, offered, wanted}
 use Rattle.qx_pipe.proofs.LawLemmas.{cancel_once, read_once, release_once, write_once}
 use Rattle.qx_pipe.proofs.laws.nobody_is_answered_twice.Goals as goal
 
 pub returns : goal.returns
-returns g c = record {
-  read = read_once g.T.Waiter.wanted g.T.Waiter.bytes g.T.Waiter.gone;
-  write = write_once g.T.Waiter.wanted g.T.Waiter.bytes g.T.Waiter.gone;
-  cancel = cancel_once g.T.Waiter.wanted g.T.Waiter.bytes g.T.Waiter.gone;
-  release = release_once g.T.Waiter.wanted g.T.Waiter.bytes g.T.Waiter.gone;
+returns c = record {
+  read = read_once wanted offered is_gone;
+  write = write_once wanted offered is_gone;
+  cancel = cancel_once wanted offered is_gone;
+  release = release_once wanted offered is_gone;
 }
