@@ -136,6 +136,16 @@ impl Config {
         limits
     }
 
+    /// The priority of a user's disconnect pulses.
+    pub fn disconnect_prio(&self, user: User) -> Prio
+        ensures prio { result.0 ≡ (limits_of self.now user.0).disconnect }
+        ensures lowest { 1 ≤ result.0 }
+    {
+        let limits = self.limits(user);
+        limits.know();
+        limits.disconnect_prio()
+    }
+
     /// The limits that stand under a user's number.
     fn limits_at(&self, user: User) -> Option<UserLimits>
         ensures limits { unwrap_or result default_limits ≡ set_limits self.now user.0 }
