@@ -96,8 +96,8 @@ module _ (users : Users) (queues : Shared) (thread : Thread) (f : Process → Pr
       waits = waits-told users new queues thread f (answered_thread answer) one kept (no-wait (thread_row users thread) (option_map (answered_thread answer) (thread_row users thread)) left.unwaiting);
     }
 
-    pub Kept-left : (lost : Option ServerName) → LosesAt lost (process_of users thread.proc) (process_of new thread.proc) → StandTogether new (with_lost thread.proc (option_to_list lost) (with_shared_line queues number change))
-    Kept-left lost loses = Kept-lost new (with_shared_line queues number change) thread.proc (process_of users thread.proc) lost
+    pub Kept-left : (prio : ℕ) (lost : Option ServerName) → LosesAt lost (process_of users thread.proc) (process_of new thread.proc) → StandTogether new (with_lost prio thread.proc (option_to_list lost) (with_shared_line queues number change))
+    Kept-left prio lost loses = Kept-lost new (with_shared_line queues number change) prio thread.proc (process_of users thread.proc) lost
         (beside users new queues thread f (answered_thread answer) one kept manager change own) (kept.servers thread.proc) loses
 
 -- ---- a queued message goes
@@ -113,8 +113,8 @@ module _ (users : Users) (queues : Shared) (thread : Thread) (call : Call) (is :
   at_target = queued-at_target (thread_row users thread) call is
 
   pub Kept-withdrawn : (f : Process → Process) (answer : Answer) → IsAnswer thread.tid answer f → stands (drop_message (line_at queues.lines its_line)) thread ≡ false
-      → (lost : Option ServerName) → LosesAt lost (process_of users thread.proc) (process_of (with_process_of users thread.proc f) thread.proc)
-      → StandTogether (with_process_of users thread.proc f) (with_lost thread.proc (option_to_list lost)
+      → (prio : ℕ) (lost : Option ServerName) → LosesAt lost (process_of users thread.proc) (process_of (with_process_of users thread.proc f) thread.proc)
+      → StandTogether (with_process_of users thread.proc f) (with_lost prio thread.proc (option_to_list lost)
       (with_shared_line queues (manager_number call.target.manager) (line_without thread.proc.user.0 (item.Message thread.proc.num thread.tid))))
   Kept-withdrawn f answer answers gone = Kept-left users queues thread f answer answers kept call.target.manager drop_message
       (record {
@@ -173,8 +173,8 @@ module _ (users : Users) (queues : Shared) (thread : Thread) (call : Call) (is :
 
   pub Kept-answered : (f : Process → Process) (answer : Answer) → IsAnswer thread.tid answer f
       → (unblock_call (line_at queues.lines call_line) thread ≡ Some call.number → unblock_call (drop_pulse (line_at queues.lines call_line)) thread ≡ None)
-      → (lost : Option ServerName) → LosesAt lost (process_of users thread.proc) (process_of (with_process_of users thread.proc f) thread.proc)
-      → StandTogether (with_process_of users thread.proc f) (with_lost thread.proc (option_to_list lost)
+      → (prio : ℕ) (lost : Option ServerName) → LosesAt lost (process_of users thread.proc) (process_of (with_process_of users thread.proc f) thread.proc)
+      → StandTogether (with_process_of users thread.proc f) (with_lost prio thread.proc (option_to_list lost)
       (with_shared_line queues (manager_number call.target.manager) (line_without thread.proc.user.0 (item.Unblock thread.proc.num thread.tid call.number))))
   Kept-answered f answer answers gone = Kept-left users queues thread f answer answers kept call.target.manager drop_pulse
       (record {

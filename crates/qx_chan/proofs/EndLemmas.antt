@@ -273,29 +273,29 @@ none-before (suc number) (Some server ∷ lost) manager apart =
     rw (apart 0 server (omega arith) refl) (none-before number lost manager (λ before other below. apart (suc before) other (omega (arith, below))))
 
 -- one that was lost has its node still, once the pulses of those before it stand in their lines
-pub next-there : (queues : Shared) (proc : Proc) (lost : List (Option ServerName)) → AllHaveNodes queues proc lost → (number : ℕ) (next : Option ServerName) → row_at lost number ≡ next
-    → IfSome next (λ server. IsTrue (has_disconnect_node (with_lost proc (flat_map option_to_list (take number lost)) queues) proc (manager_number server.manager)))
-next-there queues proc lost nodes number None is = tt
-next-there queues proc lost nodes number (Some server) is =
+pub next-there : (queues : Shared) (prio : ℕ) (proc : Proc) (lost : List (Option ServerName)) → AllHaveNodes queues proc lost → (number : ℕ) (next : Option ServerName) → row_at lost number ≡ next
+    → IfSome next (λ server. IsTrue (has_disconnect_node (with_lost prio proc (flat_map option_to_list (take number lost)) queues) proc (manager_number server.manager)))
+next-there queues prio proc lost nodes number None is = tt
+next-there queues prio proc lost nodes number (Some server) is =
     let had : has_disconnect_node queues proc (manager_number server.manager) ≡ true = subst (λ row. IfSome row (λ server. IsTrue (has_disconnect_node queues proc (manager_number server.manager)))) is (nodes.there number) in
     let none : list_any (λ other. is_at server.manager (Some other)) (flat_map option_to_list (take number lost)) ≡ false =
     sym (any-listed server.manager (take number lost))
     ∙ none-before number lost server.manager (λ before other below there.
     eqb-differs (manager_number other.manager) (manager_number server.manager) (nodes.apart before number other server (λ same. omega (arith, same, below)) there is)) in
-    lost-nodes proc (flat_map option_to_list (take number lost)) queues server.manager ∙ rw (had, none) refl
+    lost-nodes prio proc (flat_map option_to_list (take number lost)) queues server.manager ∙ rw (had, none) refl
 
-with_lost-more : (proc : Proc) (before more : List ServerName) (queues : Shared) → with_lost proc (before ++ more) queues ≡ with_lost proc more (with_lost proc before queues)
-with_lost-more proc [] more queues = refl
-with_lost-more proc (server ∷ before) more queues = with_lost-more proc before more (with_shared_disconnect queues proc server)
+with_lost-more : (prio : ℕ) (proc : Proc) (before more : List ServerName) (queues : Shared) → with_lost prio proc (before ++ more) queues ≡ with_lost prio proc more (with_lost prio proc before queues)
+with_lost-more prio proc [] more queues = refl
+with_lost-more prio proc (server ∷ before) more queues = with_lost-more prio proc before more (with_shared_disconnect queues proc server prio)
 
 -- and its own pulse then
-pub with_lost-next : (queues : Shared) (proc : Proc) (lost : List (Option ServerName)) (number : ℕ) → number < length lost
-    → with_lost proc (flat_map option_to_list (take (number + 1) lost)) queues ≡ with_lost proc (option_to_list (get_or lost number None)) (with_lost proc (flat_map option_to_list (take number lost)) queues)
-with_lost-next queues proc lost number within =
+pub with_lost-next : (queues : Shared) (prio : ℕ) (proc : Proc) (lost : List (Option ServerName)) (number : ℕ) → number < length lost
+    → with_lost prio proc (flat_map option_to_list (take (number + 1) lost)) queues ≡ with_lost prio proc (option_to_list (get_or lost number None)) (with_lost prio proc (flat_map option_to_list (take number lost)) queues)
+with_lost-next queues prio proc lost number within =
     let next : Option ServerName = get_or lost number None in
-    ap (λ some. with_lost proc (flat_map option_to_list some) queues) (take_more lost number None within)
-    ∙ ap (λ some. with_lost proc some queues) (flat_map-append option_to_list (take number lost) (next ∷ []) ∙ ap (λ some. flat_map option_to_list (take number lost) ++ some) (append-nil (option_to_list next)))
-    ∙ with_lost-more proc (flat_map option_to_list (take number lost)) (option_to_list next) queues
+    ap (λ some. with_lost prio proc (flat_map option_to_list some) queues) (take_more lost number None within)
+    ∙ ap (λ some. with_lost prio proc some queues) (flat_map-append option_to_list (take number lost) (next ∷ []) ∙ ap (λ some. flat_map option_to_list (take number lost) ++ some) (append-nil (option_to_list next)))
+    ∙ with_lost-more prio proc (flat_map option_to_list (take number lost)) (option_to_list next) queues
 
 -- ---- calls that wait
 
@@ -457,37 +457,37 @@ module _ (users : Users) (proc : Proc) (process : Process) (there : process_of u
         placed : (number : ℕ) (server : ServerName) → row_at lost number ≡ Some server → manager_number server.manager ≡ number
         placed number server is = subst (λ row. IfSome row (λ own. manager_number own.manager ≡ number)) is (used-placed process number)
 
-    module _ (loses : LosesAll process (ended process)) where
+    module _ (prio : ℕ) (loses : LosesAll process (ended process)) where
       abbrev servers : List ServerName
       servers = flat_map option_to_list lost
 
       node-before : (manager : Manager) → has_disconnect_node left proc (manager_number manager) ≡ list_any (is_at manager) lost
       node-before manager = node-here manager ∙ used-listed process manager
 
-      pub Kept-ended : StandTogether (with_process_of users proc ended) (with_lost proc (flat_map option_to_list lost) left)
-      Kept-ended = Kept-beside new (with_lost proc servers left) proc (beside-lost new proc servers left beside-ended) (λ manager.
-          lost-nodes proc servers left manager ∙ ap (λ b. b && not (list_any (is_at_server proc manager) servers)) (node-before manager ∙ any-listed manager lost)
-          ∙ and-not_self (list_any (is_at_server proc manager) servers) ∙ sym (ap (served_at manager) here ∙ loses.unserved manager))
+      pub Kept-ended : StandTogether (with_process_of users proc ended) (with_lost prio proc (flat_map option_to_list lost) left)
+      Kept-ended = Kept-beside new (with_lost prio proc servers left) proc (beside-lost new prio proc servers left beside-ended) (λ manager.
+          lost-nodes prio proc servers left manager ∙ ap (λ b. b && not (list_any (is_at_server prio proc manager) servers)) (node-before manager ∙ any-listed manager lost)
+          ∙ and-not_self (list_any (is_at_server prio proc manager) servers) ∙ sym (ap (served_at manager) here ∙ loses.unserved manager))
 
-      pub pipes-ended : length (with_lost proc (flat_map option_to_list lost) left).pipes ≡ length old.pipes
-      pipes-ended = ap length (lost-fields proc (λ c. c.pipes) (λ c server. refl) servers left) ∙ length-set now.pipes user _ ∙ ap length pipes_are
+      pub pipes-ended : length (with_lost prio proc (flat_map option_to_list lost) left).pipes ≡ length old.pipes
+      pipes-ended = ap length (lost-fields prio proc (λ c. c.pipes) (λ c server. refl) servers left) ∙ length-set now.pipes user _ ∙ ap length pipes_are
 
       pub shown-ended : (mounts : List (List MountPoint)) (events after : List Events) → after ≡ slice_set events user (without_pulses proc.num (get_or events user no_events))
-          → shown (with_process_of users proc ended) (with_lost proc (flat_map option_to_list lost) left) mounts after ≡ after_exit (shown users old mounts events) proc
+          → shown (with_process_of users proc ended) (with_lost prio proc (flat_map option_to_list lost) left) mounts after ≡ after_exit prio (shown users old mounts events) proc
       shown-ended mounts events after events_are =
           (λ i. record { users = new; lines = lines i; pipes = pipes i; events = events_are i; mounts = mounts; room = room i })
-          ∙ ap (ended_in (shown users old mounts events) proc) (sym alive_is)
+          ∙ ap (ended_in prio (shown users old mounts events) proc) (sym alive_is)
         where
           alive_is : living (process_of users proc) ≡ Some process
           alive_is = rw (there, alive) refl
 
-          lines : (with_lost proc servers left).lines ≡ lines_after user old.lines (dropped proc.num 0 process.threads ++ map (disconnect proc.num) (lost_servers process (ended process)))
-          lines = lost-lines proc servers left ∙ ap (λ (q : Shared). lines_after user q.lines (map (disconnect proc.num) servers)) dropped_so.queues
-              ∙ sym (lines_after-append user old.lines (dropped_below users proc count) (map (disconnect proc.num) servers))
-              ∙ (λ i. lines_after user old.lines (dropped-all users proc process there count few i ++ map (disconnect proc.num) (loses.lost_are i)))
+          lines : (with_lost prio proc servers left).lines ≡ lines_after user old.lines (dropped proc.num 0 process.threads ++ map (disconnect prio proc.num) (lost_servers process (ended process)))
+          lines = lost-lines prio proc servers left ∙ ap (λ (q : Shared). lines_after user q.lines (map (disconnect prio proc.num) servers)) dropped_so.queues
+              ∙ sym (lines_after-append user old.lines (dropped_below users proc count) (map (disconnect prio proc.num) servers))
+              ∙ (λ i. lines_after user old.lines (dropped-all users proc process there count few i ++ map (disconnect prio proc.num) (loses.lost_are i)))
 
-          pipes : (with_lost proc servers left).pipes ≡ slice_set old.pipes user (map (option_map (with_abandoned proc.num)) (get_or old.pipes user no_pipes))
-          pipes = lost-fields proc (λ c. c.pipes) (λ c server. refl) servers left ∙ ap (λ pipes. slice_set pipes user (map (option_map (with_abandoned proc.num)) (get_or pipes user no_pipes))) pipes_are
+          pipes : (with_lost prio proc servers left).pipes ≡ slice_set old.pipes user (map (option_map (with_abandoned proc.num)) (get_or old.pipes user no_pipes))
+          pipes = lost-fields prio proc (λ c. c.pipes) (λ c server. refl) servers left ∙ ap (λ pipes. slice_set pipes user (map (option_map (with_abandoned proc.num)) (get_or pipes user no_pipes))) pipes_are
 
-          room : (with_lost proc servers left).room ≡ old.room
-          room = lost-fields proc (λ c. c.room) (λ c server. refl) servers left ∙ ap (λ (q : Shared). q.room) dropped_so.queues
+          room : (with_lost prio proc servers left).room ≡ old.room
+          room = lost-fields prio proc (λ c. c.room) (λ c server. refl) servers left ∙ ap (λ (q : Shared). q.room) dropped_so.queues

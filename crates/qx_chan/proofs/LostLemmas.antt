@@ -44,9 +44,9 @@ first-listed : (lost : Option ServerName) → take 1 (option_to_list lost) ≡ o
 first-listed None = refl
 first-listed (Some server) = refl
 
-pub lost-pulses : (number : ℕ) (change : Process → Process) (process : Option Process) (lost : Option ServerName) → LosesAt lost process (option_map change process) → disconnects number change process ≡ map (disconnect number) (option_to_list lost)
-lost-pulses number change None lost none = rw none refl
-lost-pulses number change (Some process) lost loses = ap (λ servers. map (disconnect number) (take 1 servers)) loses.lost_is ∙ ap (map (disconnect number)) (first-listed lost)
+pub lost-pulses : (prio number : ℕ) (change : Process → Process) (process : Option Process) (lost : Option ServerName) → LosesAt lost process (option_map change process) → disconnects prio number change process ≡ map (disconnect prio number) (option_to_list lost)
+lost-pulses prio number change None lost none = rw none refl
+lost-pulses prio number change (Some process) lost loses = ap (λ servers. map (disconnect prio number) (take 1 servers)) loses.lost_is ∙ ap (map (disconnect prio number)) (first-listed lost)
 
 -- lists that are all empty
 flat-none : {A B : Type 0} (each : A → List B) (xs : List A) → ((x : A) → each x ≡ []) → flat_map each xs ≡ []
@@ -80,16 +80,16 @@ and-either true true more = refl
 and-either true false more = refl
 and-either false here more = refl
 
-module _ (proc : Proc) where
-  pub lost-fields : {A : Type 0} (read : Shared → A) → ((c : Shared) (server : ServerName) → read (with_shared_disconnect c proc server) ≡ read c) → (lost : List ServerName) (c : Shared) → read (with_lost proc lost c) ≡ read c
+module _ (prio : ℕ) (proc : Proc) where
+  pub lost-fields : {A : Type 0} (read : Shared → A) → ((c : Shared) (server : ServerName) → read (with_shared_disconnect c proc server prio) ≡ read c) → (lost : List ServerName) (c : Shared) → read (with_lost prio proc lost c) ≡ read c
   lost-fields read same [] c = refl
-  lost-fields read same (server ∷ lost) c = lost-fields read same lost (with_shared_disconnect c proc server) ∙ same c server
+  lost-fields read same (server ∷ lost) c = lost-fields read same lost (with_shared_disconnect c proc server prio) ∙ same c server
 
-  pub lost-lines : (lost : List ServerName) (c : Shared) → (with_lost proc lost c).lines ≡ lines_after proc.user.0 c.lines (map (disconnect proc.num) lost)
+  pub lost-lines : (lost : List ServerName) (c : Shared) → (with_lost prio proc lost c).lines ≡ lines_after proc.user.0 c.lines (map (disconnect prio proc.num) lost)
   lost-lines [] c = refl
-  lost-lines (server ∷ lost) c = lost-lines lost (with_shared_disconnect c proc server)
+  lost-lines (server ∷ lost) c = lost-lines lost (with_shared_disconnect c proc server prio)
 
-  pub lost-node : (lost : Option ServerName) (c : Shared) (manager : Manager) → has_disconnect_node (with_lost proc (option_to_list lost) c) proc (manager_number manager) ≡ (has_disconnect_node c proc (manager_number manager) && not (is_at manager lost))
+  pub lost-node : (lost : Option ServerName) (c : Shared) (manager : Manager) → has_disconnect_node (with_lost prio proc (option_to_list lost) c) proc (manager_number manager) ≡ (has_disconnect_node c proc (manager_number manager) && not (is_at manager lost))
   lost-node None c manager = sym (and-true (has_disconnect_node c proc (manager_number manager)))
   lost-node (Some server) c manager = has-removed c.servers proc (manager_number server.manager) proc (manager_number manager) ∙ rw (same_server-self proc (manager_number server.manager) (manager_number manager)) refl
 
@@ -97,17 +97,17 @@ module _ (proc : Proc) where
   abbrev pub is_at_server : Manager → ServerName → Bool
   is_at_server manager server = is_at manager (Some server)
 
-  pub lost-nodes : (lost : List ServerName) (c : Shared) (manager : Manager) → has_disconnect_node (with_lost proc lost c) proc (manager_number manager) ≡ (has_disconnect_node c proc (manager_number manager) && not (list_any (is_at_server manager) lost))
+  pub lost-nodes : (lost : List ServerName) (c : Shared) (manager : Manager) → has_disconnect_node (with_lost prio proc lost c) proc (manager_number manager) ≡ (has_disconnect_node c proc (manager_number manager) && not (list_any (is_at_server manager) lost))
   lost-nodes [] c manager = sym (and-true (has_disconnect_node c proc (manager_number manager)))
   lost-nodes (server ∷ lost) c manager =
-      lost-nodes lost (with_shared_disconnect c proc server) manager
+      lost-nodes lost (with_shared_disconnect c proc server prio) manager
       ∙ ap (λ b. b && not (list_any (is_at_server manager) lost)) (lost-node (Some server) c manager)
       ∙ and-either (has_disconnect_node c proc (manager_number manager)) (is_at manager (Some server)) (list_any (is_at_server manager) lost)
 
-  lost-node-other : (lost : List ServerName) (c : Shared) (other : Proc) (at : ℕ) → other ≢ proc → has_disconnect_node (with_lost proc lost c) other at ≡ has_disconnect_node c other at
+  lost-node-other : (lost : List ServerName) (c : Shared) (other : Proc) (at : ℕ) → other ≢ proc → has_disconnect_node (with_lost prio proc lost c) other at ≡ has_disconnect_node c other at
   lost-node-other [] c other at differs = refl
   lost-node-other (server ∷ lost) c other at differs =
-      lost-node-other lost (with_shared_disconnect c proc server) other at differs
+      lost-node-other lost (with_shared_disconnect c proc server prio) other at differs
       ∙ has-removed c.servers proc (manager_number server.manager) other at ∙ rw (is_same_server-differs proc other (manager_number server.manager) at (λ same. absurd (differs same))) (and-true (has_disconnect_node c other at))
 
 -- rows, lines and nodes stand together, but for the disconnect nodes of one process
@@ -138,39 +138,39 @@ Kept-beside users queues proc beside own = record {
 }
 
 -- a disconnect pulse in a line is no thread's
-module _ (users : Users) (queues : Shared) (proc : Proc) (server : ServerName) (beside : StandBeside users queues proc) where
+module _ (users : Users) (queues : Shared) (prio : ℕ) (proc : Proc) (server : ServerName) (beside : StandBeside users queues proc) where
   abbrev number : ℕ
   number = manager_number server.manager
 
-  told : {A : Type 0} (read : List Queued → A) (at : ℕ) → read (into rank (line_at queues.lines number) (disconnect_of proc server)) ≡ read (line_at queues.lines number)
-      → read (line_at (with_shared_disconnect queues proc server).lines at) ≡ read (line_at queues.lines at)
+  told : {A : Type 0} (read : List Queued → A) (at : ℕ) → read (into rank (line_at queues.lines number) (disconnect_of proc server prio)) ≡ read (line_at queues.lines number)
+      → read (line_at (with_shared_disconnect queues proc server prio).lines at) ≡ read (line_at queues.lines at)
   told read at same = elim (cases_eq at number) [
-    | inl equal ↦ rw (equal, line_at-same queues.lines number (λ line. into rank line (disconnect_of proc server)) (rw beside.managers (number_below server.manager))) same
-    | inr differs ↦ rw (line_at-other queues.lines number (λ line. into rank line (disconnect_of proc server)) at differs) refl
+    | inl equal ↦ rw (equal, line_at-same queues.lines number (λ line. into rank line (disconnect_of proc server prio)) (rw beside.managers (number_below server.manager))) same
+    | inr differs ↦ rw (line_at-other queues.lines number (λ line. into rank line (disconnect_of proc server prio)) at differs) refl
   ]
 
-  beside-disconnected : StandBeside users (with_shared_disconnect queues proc server) proc
+  beside-disconnected : StandBeside users (with_shared_disconnect queues proc server prio) proc
   beside-disconnected = record {
     users = beside.users;
     managers = length-set queues.lines number _ ∙ beside.managers;
     threads = beside.threads;
-    lines = λ thread at. told (λ line. stands line thread) at (stands-disconnected rank (line_at queues.lines number) proc server thread) ∙ beside.lines thread at;
-    pulses = λ thread at call is. beside.pulses thread at call (sym (told (λ line. unblock_call line thread) at (call-disconnected rank (line_at queues.lines number) proc server thread)) ∙ is);
-    others = λ other differs manager. lost-node-other proc (server ∷ []) queues other (manager_number manager) differs ∙ beside.others other differs manager;
+    lines = λ thread at. told (λ line. stands line thread) at (stands-disconnected rank (line_at queues.lines number) proc server prio thread) ∙ beside.lines thread at;
+    pulses = λ thread at call is. beside.pulses thread at call (sym (told (λ line. unblock_call line thread) at (call-disconnected rank (line_at queues.lines number) proc server prio thread)) ∙ is);
+    others = λ other differs manager. lost-node-other prio proc (server ∷ []) queues other (manager_number manager) differs ∙ beside.others other differs manager;
     waits = beside.waits;
     answered = beside.answered;
   }
 
-pub beside-lost : (users : Users) (proc : Proc) (lost : List ServerName) (queues : Shared) → StandBeside users queues proc → StandBeside users (with_lost proc lost queues) proc
-beside-lost users proc [] queues beside = beside
-beside-lost users proc (server ∷ lost) queues beside = beside-lost users proc lost (with_shared_disconnect queues proc server) (beside-disconnected users queues proc server beside)
+pub beside-lost : (users : Users) (prio : ℕ) (proc : Proc) (lost : List ServerName) (queues : Shared) → StandBeside users queues proc → StandBeside users (with_lost prio proc lost queues) proc
+beside-lost users prio proc [] queues beside = beside
+beside-lost users prio proc (server ∷ lost) queues beside = beside-lost users prio proc lost (with_shared_disconnect queues proc server prio) (beside-disconnected users queues prio proc server beside)
 
 -- where the process had the disconnect nodes of what it used before it lost that
-pub Kept-lost : (users : Users) (queues : Shared) (proc : Proc) (before : Option Process) (lost : Option ServerName) → StandBeside users queues proc → ((manager : Manager) → has_disconnect_node queues proc (manager_number manager) ≡ served_at manager before)
-    → LosesAt lost before (process_of users proc) → StandTogether users (with_lost proc (option_to_list lost) queues)
-Kept-lost users queues proc before lost beside had loses =
-    Kept-beside users (with_lost proc (option_to_list lost) queues) proc (beside-lost users proc (option_to_list lost) queues beside)
-    (λ manager. lost-node proc lost queues manager ∙ ap (λ b. b && not (is_at manager lost)) (had manager) ∙ sym (lost-served lost before (process_of users proc) loses manager))
+pub Kept-lost : (users : Users) (queues : Shared) (prio : ℕ) (proc : Proc) (before : Option Process) (lost : Option ServerName) → StandBeside users queues proc → ((manager : Manager) → has_disconnect_node queues proc (manager_number manager) ≡ served_at manager before)
+    → LosesAt lost before (process_of users proc) → StandTogether users (with_lost prio proc (option_to_list lost) queues)
+Kept-lost users queues prio proc before lost beside had loses =
+    Kept-beside users (with_lost prio proc (option_to_list lost) queues) proc (beside-lost users prio proc (option_to_list lost) queues beside)
+    (λ manager. lost-node prio proc lost queues manager ∙ ap (λ b. b && not (is_at manager lost)) (had manager) ∙ sym (lost-served lost before (process_of users proc) loses manager))
 
 -- what is lost has its node
 pub lost-there : (queues : Shared) (proc : Proc) (before after : Option Process) (lost : Option ServerName) → HasServerNodesOf before queues proc → LosesAt lost before after
@@ -179,18 +179,18 @@ lost-there queues proc before after None nodes loses = tt
 lost-there queues proc before after (Some server) nodes loses = nodes server.manager ∙ lost-used (Some server) before after loses
 
 -- the channel, once the pulse of what is lost stands in its line
-pub shown-lost : (users : Users) (proc : Proc) (f : Process → Process) (queues : Shared) (mounts : List (List MountPoint)) (events : List Events) (lost : Option ServerName) → LosesAt lost (process_of users proc) (process_of (with_process_of users proc f) proc)
-    → shown (with_process_of users proc f) (with_lost proc (option_to_list lost) queues) mounts events
-    ≡ record { users = with_process_of users proc f; lines = lines_after proc.user.0 queues.lines (disconnects proc.num f (process_of users proc)); pipes = queues.pipes; events = events; mounts = mounts; room = queues.room }
-shown-lost users proc f queues mounts events lost loses = λ i. record {
+pub shown-lost : (users : Users) (prio : ℕ) (proc : Proc) (f : Process → Process) (queues : Shared) (mounts : List (List MountPoint)) (events : List Events) (lost : Option ServerName) → LosesAt lost (process_of users proc) (process_of (with_process_of users proc f) proc)
+    → shown (with_process_of users proc f) (with_lost prio proc (option_to_list lost) queues) mounts events
+    ≡ record { users = with_process_of users proc f; lines = lines_after proc.user.0 queues.lines (disconnects prio proc.num f (process_of users proc)); pipes = queues.pipes; events = events; mounts = mounts; room = queues.room }
+shown-lost users prio proc f queues mounts events lost loses = λ i. record {
   mounts = mounts;
   users = with_process_of users proc f;
   events = events;
   lines = lines i;
-  pipes = lost-fields proc (λ c. c.pipes) (λ c server. refl) (option_to_list lost) queues i;
-  room = lost-fields proc (λ c. c.room) (λ c server. refl) (option_to_list lost) queues i;
+  pipes = lost-fields prio proc (λ c. c.pipes) (λ c server. refl) (option_to_list lost) queues i;
+  room = lost-fields prio proc (λ c. c.room) (λ c server. refl) (option_to_list lost) queues i;
 }
   where
-    lines : (with_lost proc (option_to_list lost) queues).lines ≡ lines_after proc.user.0 queues.lines (disconnects proc.num f (process_of users proc))
-    lines = lost-lines proc (option_to_list lost) queues
-        ∙ ap (lines_after proc.user.0 queues.lines) (sym (lost-pulses proc.num f (process_of users proc) lost (subst (LosesAt lost (process_of users proc)) (process_of-same users proc f) loses)))
+    lines : (with_lost prio proc (option_to_list lost) queues).lines ≡ lines_after proc.user.0 queues.lines (disconnects prio proc.num f (process_of users proc))
+    lines = lost-lines prio proc (option_to_list lost) queues
+        ∙ ap (lines_after proc.user.0 queues.lines) (sym (lost-pulses prio proc.num f (process_of users proc) lost (subst (LosesAt lost (process_of users proc)) (process_of-same users proc f) loses)))

@@ -115,15 +115,15 @@ pub taken-received : (users : Users) (thread : Thread) (call : Call) → Receive
 taken-received users thread call its = rw (its.user, its.there, its.at, its.is) (ap Some (sym its.call_is))
 
 -- what the machine serves
-pub serves-message : (part : Part) (number thread moment : ℕ) (process : Process) (row : ThreadRow) (sent : Sent) → row_at part.processes number ≡ Some process → row_at process.threads thread ≡ Some row → taken_in row.state ≡ Some sent
-    → serve_message part number thread moment ≡ Ok (served_by part (caller_of number thread row sent) sent (deed_of part.resources (context_of process (caller_of number thread row sent) sent.target moment (meaning sent.bytes)) (meaning sent.bytes)))
-serves-message part number thread moment process row sent there at is = rw (there, at, is) refl
+pub serves-message : (prio : ℕ) (part : Part) (number thread moment : ℕ) (process : Process) (row : ThreadRow) (sent : Sent) → row_at part.processes number ≡ Some process → row_at process.threads thread ≡ Some row → taken_in row.state ≡ Some sent
+    → serve_message prio part number thread moment ≡ Ok (served_by prio part (caller_of number thread row sent) sent (deed_of part.resources (context_of process (caller_of number thread row sent) sent.target moment (meaning sent.bytes)) (meaning sent.bytes)))
+serves-message prio part number thread moment process row sent there at is = rw (there, at, is) refl
 
 -- ---- after
 
 -- a thread with no received message is left as it is
-module _ (thread : Thread) (moment : ℕ) where
-  untaken : (part : Part) → taken_call (thread_at part thread.proc.num thread.tid) ≡ None → or_kept part (serve_message part thread.proc.num thread.tid moment) ≡ record { part = part; changes = [] }
+module _ (prio : ℕ) (thread : Thread) (moment : ℕ) where
+  untaken : (part : Part) → taken_call (thread_at part thread.proc.num thread.tid) ≡ None → or_kept part (serve_message prio part thread.proc.num thread.tid moment) ≡ record { part = part; changes = [] }
   untaken part none = elim (option_cases (row_at part.processes thread.proc.num)) [
     | inl nobody ↦ rw nobody refl
     | inr process ↦ elim (option_cases (row_at process.0.threads thread.tid)) [
@@ -139,8 +139,8 @@ module _ (thread : Thread) (moment : ℕ) where
   ]
 
   pub Serves-untaken : (users : Users) (w : AllTables) (k : state.Kept) → k.user ≡ thread.proc.user.0 → taken_call (thread_row users thread) ≡ None
-      → Serves (shown users w.shared w.mounts w.events.events) (shown users w.shared w.mounts w.events.events) k k (λ part. settled part (or_kept part (serve_message part thread.proc.num thread.tid moment)))
-  Serves-untaken users w k of none = Serves-nothing users w k (λ part. or_kept part (serve_message part thread.proc.num thread.tid moment)) (λ processes there.
+      → Serves (shown users w.shared w.mounts w.events.events) (shown users w.shared w.mounts w.events.events) k k (λ part. settled part (or_kept part (serve_message prio part thread.proc.num thread.tid moment)))
+  Serves-untaken users w k of none = Serves-nothing users w k (λ part. or_kept part (serve_message prio part thread.proc.num thread.tid moment)) (λ processes there.
       let idle : taken_call (thread_of thread.tid (process_of_user thread.proc.num (Some processes))) ≡ None = ap (λ rows. taken_call (thread_of thread.tid (process_of_user thread.proc.num rows))) (sym there ∙ ap (row_at users) of) ∙ none in
       untaken (record { processes = processes; resources = told k w }) idle)
 

@@ -123,18 +123,18 @@ module _ (users : Users) (thread : Thread) (rows : List (Option Process)) (there
       (shown-sent users queues thread sent kept (uses-called users thread rows there queues sent after left changed uses put) mounts events)
 
 -- a message that is answered, or is left without a reply, touches nothing else of what is shared than lines and disconnect nodes
-module _ {A : Type 0} (read : Shared → A) (lost_same : (c : Shared) (proc : Proc) (server : ServerName) → read (with_shared_disconnect c proc server) ≡ read c)
+module _ {A : Type 0} (read : Shared → A) (lost_same : (c : Shared) (proc : Proc) (server : ServerName) (prio : ℕ) → read (with_shared_disconnect c proc server prio) ≡ read c)
     (line_same : (c : Shared) (number : ℕ) (change : List Queued → List Queued) → read (with_shared_line c number change) ≡ read c) where
-  replied-fields : (queues : Shared) (before after : Process) (thread : Thread) (call : Call) → read (without_pulse queues before after thread call) ≡ read queues
-  replied-fields queues before after thread call =
+  replied-fields : (prio : ℕ) (queues : Shared) (before after : Process) (thread : Thread) (call : Call) → read (without_pulse prio queues before after thread call) ≡ read queues
+  replied-fields prio queues before after thread call =
       let number = manager_number call.target.manager in
       let change = line_without thread.proc.user.0 (item.Unblock thread.proc.num thread.tid call.number) in
-      lost-fields thread.proc read (λ c server. lost_same c thread.proc server) (lost_servers before after) (with_shared_line queues number change) ∙ line_same queues number change
+      lost-fields prio thread.proc read (λ c server. lost_same c thread.proc server prio) (lost_servers before after) (with_shared_line queues number change) ∙ line_same queues number change
 
-  pub answered-fields : (queues : Shared) (before after : Process) (thread : Thread) (call : Call) (given : Result Done Errno) → read (answered_queues queues before after thread call given) ≡ read queues
-  answered-fields queues before after thread call (Ok NoReply) = refl
-  answered-fields queues before after thread call (Ok (Reply status effect)) = replied-fields queues before after thread call
-  answered-fields queues before after thread call (Err error) = replied-fields queues before after thread call
+  pub answered-fields : (prio : ℕ) (queues : Shared) (before after : Process) (thread : Thread) (call : Call) (given : Result Done Errno) → read (answered_queues prio queues before after thread call given) ≡ read queues
+  answered-fields prio queues before after thread call (Ok NoReply) = refl
+  answered-fields prio queues before after thread call (Ok (Reply status effect)) = replied-fields prio queues before after thread call
+  answered-fields prio queues before after thread call (Err error) = replied-fields prio queues before after thread call
 
 -- what a function does to a user's resources touches nothing else of what is shared than the user's pipes and the answers to calls in them
 pub did-fields : {A : Type 0} (read : Shared → A) → ((c : Shared) (user : ℕ) (pipes : Pipes) (answers : List (WaitingCall × Answer)) → read (with_pipes c user pipes answers) ≡ read c)

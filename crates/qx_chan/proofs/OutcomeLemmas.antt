@@ -131,7 +131,7 @@ module _ (users : Users) (w : AllTables) (thread : Thread) (call : Call) (its : 
   abbrev After : Users → Shared → List (List MountPoint) → List Events → state.Kept → state.Kept → (Part → Served) → Type 0
   After rows after mounts events k l served = Answering rows after × Serves (shown users w.shared w.mounts w.events.events) (given_all rows after mounts events) k l (λ part. settled part (served part))
 
-  module _ (k l : state.Kept) (v : AllTables) (of : k.user ≡ user) (moment : ℕ) where
+  module _ (prio : ℕ) (k l : state.Kept) (v : AllTables) (of : k.user ≡ user) (moment : ℕ) where
     abbrev part : Part
     part = record { processes = its.processes; resources = told k w }
 
@@ -139,35 +139,35 @@ module _ (users : Users) (w : AllTables) (thread : Thread) (call : Call) (its : 
     meant = deed_in k w its.process thread call moment its.sent.bytes
 
     abbrev served : Part → Served
-    served part = or_kept part (serve_message part thread.proc.num thread.tid moment)
+    served part = or_kept part (serve_message prio part thread.proc.num thread.tid moment)
 
     -- what the machine makes of the part, by what the message comes to
     abbrev lost_by : Result (Deed Resources) Errno → List Change
-    lost_by r = disconnects thread.proc.num (after_message thread.tid call.target.over r) (row_at part.processes thread.proc.num)
+    lost_by r = disconnects prio thread.proc.num (after_message thread.tid call.target.over r) (row_at part.processes thread.proc.num)
 
     abbrev served_by : Result (Deed Resources) Errno → Served
     served_by r = record { part = after_answer part thread.proc.num thread.tid call.target.over r; changes = served_changes (with_process thread.proc.num (after_message thread.tid call.target.over r) part) manager (caller_of_call thread call) (lost_by r) r }
 
     -- the disconnect pulse of what is lost
-    lost_pulses : (f : Process → Process) (lost : Option ServerName) → Loses lost its.process (f its.process) → disconnects thread.proc.num f (row_at part.processes thread.proc.num) ≡ map (disconnect thread.proc.num) (option_to_list lost)
-    lost_pulses f lost loses = lost-pulses thread.proc.num f (row_at part.processes thread.proc.num) lost (rw its.there loses)
+    lost_pulses : (f : Process → Process) (lost : Option ServerName) → Loses lost its.process (f its.process) → disconnects prio thread.proc.num f (row_at part.processes thread.proc.num) ≡ map (disconnect prio thread.proc.num) (option_to_list lost)
+    lost_pulses f lost loses = lost-pulses prio thread.proc.num f (row_at part.processes thread.proc.num) lost (rw its.there loses)
 
     -- what is left without a reply loses nothing
     nothing_lost : (deed : Deed Resources) → None ≡ deed.reply → [] ≡ lost_by (Ok deed)
-    nothing_lost deed reply_is = by_row (row_at part.processes thread.proc.num) ∙ ap (λ r. disconnects thread.proc.num (after_serving thread.tid call.target.over r) (row_at part.processes thread.proc.num)) reply_is
+    nothing_lost deed reply_is = by_row (row_at part.processes thread.proc.num) ∙ ap (λ r. disconnects prio thread.proc.num (after_serving thread.tid call.target.over r) (row_at part.processes thread.proc.num)) reply_is
       where
-        by_row : (row : Option Process) → [] ≡ disconnects thread.proc.num (after_serving thread.tid call.target.over None) row
+        by_row : (row : Option Process) → [] ≡ disconnects prio thread.proc.num (after_serving thread.tid call.target.over None) row
         by_row None = refl
-        by_row (Some process) = sym (ap (λ servers. map (disconnect thread.proc.num) (take 1 servers)) (none-lost process))
+        by_row (Some process) = sym (ap (λ servers. map (disconnect prio thread.proc.num) (take 1 servers)) (none-lost process))
 
     served_is : served part ≡ served_by meant
     served_is = subst (λ (c : Call). served part ≡ record {
       part = after_answer part thread.proc.num thread.tid c.target.over (deed_in k w its.process thread c moment its.sent.bytes);
       changes = served_changes (with_process thread.proc.num (after_message thread.tid c.target.over (deed_in k w its.process thread c moment its.sent.bytes)) part) c.target.manager (caller_of_call thread c)
-          (disconnects thread.proc.num (after_message thread.tid c.target.over (deed_in k w its.process thread c moment its.sent.bytes)) (row_at part.processes thread.proc.num))
+          (disconnects prio thread.proc.num (after_message thread.tid c.target.over (deed_in k w its.process thread c moment its.sent.bytes)) (row_at part.processes thread.proc.num))
           (deed_in k w its.process thread c moment its.sent.bytes);
     }) its.call_is
-        (ap (or_kept part) (serves-message part thread.proc.num thread.tid moment its.process its.row its.sent its.there its.at (ap taken_in its.is)))
+        (ap (or_kept part) (serves-message prio part thread.proc.num thread.tid moment its.process its.row its.sent its.there its.at (ap taken_in its.is)))
 
     module _ (deed : Deed Resources) (left : Leaves (is_living its.processes) k w l v deed) (r : Result (Deed Resources) Errno) (same : served_by meant ≡ served_by r) (resources_are : (served_by r).part.resources ≡ deed.state) where
       -- once the answers are given, all is as in the machine
@@ -181,13 +181,13 @@ module _ (users : Users) (w : AllTables) (thread : Thread) (call : Call) (its : 
       answered : (f : Process → Process) (given : Answer) → IsAnswer thread.tid given f → InDeed (Waits users k.user) deed → Gone v.shared
           → (lost : Option ServerName) → Loses lost its.process (f its.process)
           → given_users (with_process_of users thread.proc f) (map (users_given user) deed.answers) ≡ with_row users user (λ _. (served_by r).part.processes)
-          → given_lines (with_process_of users thread.proc f) (lines_after user (with_line w.shared.lines (manager_number manager) drop_pulse) (map (disconnect thread.proc.num) (option_to_list lost))) (map (users_given user) deed.answers) ≡ lines_after user w.shared.lines (served_by r).changes
-          → After (with_process_of users thread.proc f) (without_pulse v.shared its.process (f its.process) thread call) v.mounts v.events.events k l served
+          → given_lines (with_process_of users thread.proc f) (lines_after user (with_line w.shared.lines (manager_number manager) drop_pulse) (map (disconnect prio thread.proc.num) (option_to_list lost))) (map (users_given user) deed.answers) ≡ lines_after user w.shared.lines (served_by r).changes
+          → After (with_process_of users thread.proc f) (without_pulse prio v.shared its.process (f its.process) thread call) v.mounts v.events.events k l served
       answered f given answers keeps gone lost loses rows_are lines_are = rw loses.lost_is (
-        Answering-answered users v.shared thread call (taken-received users thread call its) (Answering-left users k.user w.shared v.shared deed kept left.shared keeps) f given answers gone lost loses_there,
-        serves rows after (lost-fields thread.proc (λ c. c.answered) (λ c server. refl) (option_to_list lost) dropped) (lost-fields thread.proc (λ c. c.pipes) (λ c server. refl) (option_to_list lost) dropped) rows_are
+        Answering-answered users v.shared thread call (taken-received users thread call its) (Answering-left users k.user w.shared v.shared deed kept left.shared keeps) f given answers gone prio lost loses_there,
+        serves rows after (lost-fields prio thread.proc (λ c. c.answered) (λ c server. refl) (option_to_list lost) dropped) (lost-fields prio thread.proc (λ c. c.pipes) (λ c server. refl) (option_to_list lost) dropped) rows_are
             (ap (λ lines. given_lines rows lines (map (users_given user) deed.answers))
-            (lost-lines thread.proc (option_to_list lost) dropped ∙ ap (λ q. lines_after user (with_line q.lines (manager_number manager) drop_pulse) (map (disconnect thread.proc.num) (option_to_list lost))) left.shared)
+            (lost-lines prio thread.proc (option_to_list lost) dropped ∙ ap (λ q. lines_after user (with_line q.lines (manager_number manager) drop_pulse) (map (disconnect prio thread.proc.num) (option_to_list lost))) left.shared)
             ∙ lines_are),
       )
         where
@@ -198,7 +198,7 @@ module _ (users : Users) (w : AllTables) (thread : Thread) (call : Call) (its : 
           dropped = with_shared_line v.shared (manager_number manager) drop_pulse
 
           after : Shared
-          after = with_lost thread.proc (option_to_list lost) dropped
+          after = with_lost prio thread.proc (option_to_list lost) dropped
 
           loses_there : LosesAt lost (process_of users thread.proc) (process_of rows thread.proc)
           loses_there = rw (process_of-same users thread.proc f, its.user, its.there) loses
@@ -221,12 +221,12 @@ module _ (users : Users) (w : AllTables) (thread : Thread) (call : Call) (its : 
 
       reply_after : InDeed (Waits users k.user) deed → (status : ℕ) (bytes : List ℕ) (effect : Effect) → Some (record { status = status; bytes = bytes; effect = effect }) ≡ deed.reply → Gone v.shared
           → (lost : Option ServerName) → Loses lost its.process (process_replied thread.tid effect status bytes call.target.over its.process)
-          → After (with_process_of users thread.proc (process_replied thread.tid effect status bytes call.target.over)) (without_pulse v.shared its.process (process_replied thread.tid effect status bytes call.target.over its.process) thread call) v.mounts v.events.events k l served
+          → After (with_process_of users thread.proc (process_replied thread.tid effect status bytes call.target.over)) (without_pulse prio v.shared its.process (process_replied thread.tid effect status bytes call.target.over its.process) thread call) v.mounts v.events.events k l served
       reply_after keeps status bytes effect reply_is gone lost loses =
           let reply : Reply = record { status = status; bytes = bytes; effect = effect } in
-          let pulses = map (disconnect thread.proc.num) (option_to_list lost) in
+          let pulses = map (disconnect prio thread.proc.num) (option_to_list lost) in
           let pulses_are : pulses ≡ lost_by (Ok deed) =
-          sym (lost_pulses (process_replied thread.tid effect status bytes call.target.over) lost loses) ∙ ap (λ r. disconnects thread.proc.num (after_serving thread.tid call.target.over r) (row_at part.processes thread.proc.num)) reply_is in
+          sym (lost_pulses (process_replied thread.tid effect status bytes call.target.over) lost loses) ∙ ap (λ r. disconnects prio thread.proc.num (after_serving thread.tid call.target.over r) (row_at part.processes thread.proc.num)) reply_is in
           answered deed left (Ok deed) same (resources-machine deed.answers _) (process_replied thread.tid effect status bytes call.target.over) (answer.Reply status bytes) (replies thread.tid effect status bytes call.target.over) keeps
           gone lost loses (rows_by (Some reply) reply_is) (lines-done (with_process_of users thread.proc (after_serving thread.tid call.target.over (Some reply))) user manager deed.answers (mid (Some reply)) (mid-there (Some reply)) w.shared.lines (caller_of_call thread call) pulses ∙ lines_by (Some reply) pulses reply_is pulses_are)
 
@@ -241,47 +241,47 @@ module _ (users : Users) (w : AllTables) (thread : Thread) (call : Call) (its : 
       )
 
   -- it is refused, and nothing of the resources or what is shared is different
-  error_after : (k : state.Kept) (of : k.user ≡ user) (moment : ℕ) (error : Errno) → meant k k w of moment ≡ Err error → Gone w.shared
+  error_after : (prio : ℕ) (k : state.Kept) (of : k.user ≡ user) (moment : ℕ) (error : Errno) → meant prio k k w of moment ≡ Err error → Gone w.shared
       → (lost : Option ServerName) → Loses lost its.process (failed thread.tid error call.target.over its.process)
-      → After (with_process_of users thread.proc (failed thread.tid error call.target.over)) (without_pulse w.shared its.process (failed thread.tid error call.target.over its.process) thread call) w.mounts w.events.events k k (served k k w of moment)
-  error_after k of moment error is gone lost loses =
-      let pulses = map (disconnect thread.proc.num) (option_to_list lost) in
-      answered k k w of moment (nothing_done (told k w)) (left-same (is_living its.processes) k w) (Err error) (ap (served_by k k w of moment) is) refl (failed thread.tid error call.target.over) (answer.Failed error) (fails thread.tid error call.target.over)
+      → After (with_process_of users thread.proc (failed thread.tid error call.target.over)) (without_pulse prio w.shared its.process (failed thread.tid error call.target.over its.process) thread call) w.mounts w.events.events k k (served prio k k w of moment)
+  error_after prio k of moment error is gone lost loses =
+      let pulses = map (disconnect prio thread.proc.num) (option_to_list lost) in
+      answered prio k k w of moment (nothing_done (told k w)) (left-same (is_living its.processes) k w) (Err error) (ap (served_by prio k k w of moment) is) refl (failed thread.tid error call.target.over) (answer.Failed error) (fails thread.tid error call.target.over)
       (record { pipes = waits-before users k.user w.shared kept.waits; answers = tt })
-      gone lost loses (users-refused users thread.proc thread.tid call.target.over (part k k w of moment) its.user error)
-      (lines-done (with_process_of users thread.proc (failed thread.tid error call.target.over)) user manager [] (with_process thread.proc.num (failed thread.tid error call.target.over) (part k k w of moment))
+      gone lost loses (users-refused users thread.proc thread.tid call.target.over (part prio k k w of moment) its.user error)
+      (lines-done (with_process_of users thread.proc (failed thread.tid error call.target.over)) user manager [] (with_process thread.proc.num (failed thread.tid error call.target.over) (part prio k k w of moment))
       (changed-there users thread.proc (failed thread.tid error call.target.over) its.processes its.user) w.shared.lines (caller_of_call thread call) pulses
       ∙ ap (lines_after user w.shared.lines) (append-nil (own_change manager (caller_of_call thread call) ∷ pulses))
-      ∙ ap (λ lost. lines_after user w.shared.lines (own_change manager (caller_of_call thread call) ∷ lost)) (sym (lost_pulses k k w of moment (failed thread.tid error call.target.over) lost loses)))
+      ∙ ap (λ lost. lines_after user w.shared.lines (own_change manager (caller_of_call thread call) ∷ lost)) (sym (lost_pulses prio k k w of moment (failed thread.tid error call.target.over) lost loses)))
 
   -- the process once the message is answered, unless it is left without a reply
   abbrev answer_by : List ℕ → Result Done Errno → Process → Process
   answer_by bytes given = answered_process thread.tid call.target.over bytes given
 
-  abbrev Outcome : state.Kept → state.Kept → AllTables → ℕ → List ℕ → Result Done Errno → Type 0
-  Outcome k l v moment bytes given =
-      After (with_process_of users thread.proc (answer_by bytes given)) (answered_queues v.shared its.process (answer_by bytes given its.process) thread call given) v.mounts v.events.events k l
-      (λ part. or_kept part (serve_message part thread.proc.num thread.tid moment))
+  abbrev Outcome : ℕ → state.Kept → state.Kept → AllTables → ℕ → List ℕ → Result Done Errno → Type 0
+  Outcome prio k l v moment bytes given =
+      After (with_process_of users thread.proc (answer_by bytes given)) (answered_queues prio v.shared its.process (answer_by bytes given its.process) thread call given) v.mounts v.events.events k l
+      (λ part. or_kept part (serve_message prio part thread.proc.num thread.tid moment))
 
   -- its process has lost a server connection by that or none
   abbrev pub HasLost : List ℕ → Result Done Errno → Type 0
   HasLost bytes given = (lost : Option ServerName) × Loses lost its.process (answer_by bytes given its.process)
 
-  outcome_by : (k l : state.Kept) (v : AllTables) (of : k.user ≡ thread.proc.user.0) (moment : ℕ) (bytes : List ℕ) (given : Result Done Errno) (r : Result (Deed Resources) Errno) → meant k l v of moment ≡ r
-      → Comes (is_living its.processes) k w l v bytes given r → (IsReplied given → Gone v.shared) → (IsReplied given → HasLost bytes given) → Outcome k l v moment bytes given
-  outcome_by k l v of moment bytes (Ok (done.Reply status effect)) (Ok deed) is did gone lost =
-      reply_after k l v of moment deed did.1 (ap (served_by k l v of moment) is)
+  outcome_by : (prio : ℕ) (k l : state.Kept) (v : AllTables) (of : k.user ≡ thread.proc.user.0) (moment : ℕ) (bytes : List ℕ) (given : Result Done Errno) (r : Result (Deed Resources) Errno) → meant prio k l v of moment ≡ r
+      → Comes (is_living its.processes) k w l v bytes given r → (IsReplied given → Gone v.shared) → (IsReplied given → HasLost bytes given) → Outcome prio k l v moment bytes given
+  outcome_by prio k l v of moment bytes (Ok (done.Reply status effect)) (Ok deed) is did gone lost =
+      reply_after prio k l v of moment deed did.1 (ap (served_by prio k l v of moment) is)
       (deed-keeps_replied (told k w) its.process (caller_of_call thread call) call.target moment (meaning its.sent.bytes) deed is (Waits users k.user) (waits-before users k.user w.shared kept.waits) (record { status = status; bytes = bytes; effect = effect }) (sym did.0))
       status bytes effect did.0 (gone tt) (lost tt).0 (lost tt).1
-  outcome_by k l v of moment bytes (Ok done.NoReply) (Ok deed) is did gone lost = waiting_after k l v of moment deed did.1 (ap (served_by k l v of moment) is) is did.0
-  outcome_by k l v of moment bytes (Err error) (Err refused) is did gone lost =
-      subst (λ (l : state.Kept). Outcome k l v moment bytes (Err error)) (sym did.1)
-      (subst (λ v. Outcome k k v moment bytes (Err error)) (sym did.2)
-      (error_after k of moment error (is ∙ ap Err (sym did.0)) (subst (λ (v : AllTables). Gone v.shared) did.2 (gone tt)) (lost tt).0 (lost tt).1))
-  outcome_by k l v of moment bytes (Ok (done.Reply status effect)) (Err error) is did gone lost = absurd did
-  outcome_by k l v of moment bytes (Ok done.NoReply) (Err error) is did gone lost = absurd did
-  outcome_by k l v of moment bytes (Err error) (Ok deed) is did gone lost = absurd did
+  outcome_by prio k l v of moment bytes (Ok done.NoReply) (Ok deed) is did gone lost = waiting_after prio k l v of moment deed did.1 (ap (served_by prio k l v of moment) is) is did.0
+  outcome_by prio k l v of moment bytes (Err error) (Err refused) is did gone lost =
+      subst (λ (l : state.Kept). Outcome prio k l v moment bytes (Err error)) (sym did.1)
+      (subst (λ v. Outcome prio k k v moment bytes (Err error)) (sym did.2)
+      (error_after prio k of moment error (is ∙ ap Err (sym did.0)) (subst (λ (v : AllTables). Gone v.shared) did.2 (gone tt)) (lost tt).0 (lost tt).1))
+  outcome_by prio k l v of moment bytes (Ok (done.Reply status effect)) (Err error) is did gone lost = absurd did
+  outcome_by prio k l v of moment bytes (Ok done.NoReply) (Err error) is did gone lost = absurd did
+  outcome_by prio k l v of moment bytes (Err error) (Ok deed) is did gone lost = absurd did
 
-  pub outcome : (k l : state.Kept) (v : AllTables) (of : k.user ≡ thread.proc.user.0) (moment : ℕ) (bytes : List ℕ) (given : Result Done Errno)
-      → Comes (is_living its.processes) k w l v bytes given (meant k l v of moment) → (IsReplied given → Gone v.shared) → (IsReplied given → HasLost bytes given) → Outcome k l v moment bytes given
-  outcome k l v of moment bytes given = outcome_by k l v of moment bytes given (meant k l v of moment) refl
+  pub outcome : (prio : ℕ) (k l : state.Kept) (v : AllTables) (of : k.user ≡ thread.proc.user.0) (moment : ℕ) (bytes : List ℕ) (given : Result Done Errno)
+      → Comes (is_living its.processes) k w l v bytes given (meant prio k l v of moment) → (IsReplied given → Gone v.shared) → (IsReplied given → HasLost bytes given) → Outcome prio k l v moment bytes given
+  outcome prio k l v of moment bytes given = outcome_by prio k l v of moment bytes given (meant prio k l v of moment) refl

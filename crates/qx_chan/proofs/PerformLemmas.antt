@@ -101,9 +101,9 @@ module _ {users : Users} {w : AllTables} {k : state.Kept} {thread : Thread} {cal
   abbrev change : Process → Process
   change = answered_process thread.tid call.target.over bytes given
 
-  module _ (process : Process) (is : process ≡ answered_process thread.tid call.target.over bytes given its.process) where
+  module _ (prio : ℕ) (process : Process) (is : process ≡ answered_process thread.tid call.target.over bytes given its.process) where
     abbrev answered : AllTables
-    answered = record v { shared = answered_queues v.shared its.process process thread call given }
+    answered = record v { shared = answered_queues prio v.shared its.process process thread call given }
 
     abbrev processes : List (Option Process)
     processes = slice_set its.processes thread.proc.num (Some process)
@@ -115,9 +115,9 @@ module _ {users : Users} {w : AllTables} {k : state.Kept} {thread : Thread} {cal
     rows_same = rw (is, its.user, its.there) refl
 
     pipes_same : answered.shared.pipes ≡ v.shared.pipes
-    pipes_same = answered-fields (λ q. q.pipes) (λ c proc server. refl) (λ c number change. refl) v.shared its.process process thread call given
+    pipes_same = answered-fields (λ q. q.pipes) (λ c proc server prio. refl) (λ c number change. refl) prio v.shared its.process process thread call given
 
-    pub fits-answered : HasUser l (record v { shared = answered_queues v.shared its.process process thread call given })
+    pub fits-answered : HasUser l (record v { shared = answered_queues prio v.shared its.process process thread call given })
     fits-answered =
         let fits = fits-did k l w v bytes given _ done.fits done.did in
         record { pipes = rw pipes_same fits.pipes; events = fits.events }
@@ -137,16 +137,16 @@ module _ {users : Users} {w : AllTables} {k : state.Kept} {thread : Thread} {cal
           ∙ ap (λ (pipes : List Pipes). record answered { events = with_events v.events l.user (watched_settled (is_living its.processes) watched (record (told l v) { pipes = get_or pipes l.user no_pipes })) }) pipes_same
 
       pub room-performed : now.shared.room ≡ w.shared.room
-      room-performed = ap (λ (t : AllTables). t.shared.room) now_same ∙ answered-fields (λ q. q.room) (λ c proc server. refl) (λ c number change. refl) v.shared its.process process thread call given ∙ same (λ q. q.room) (λ q user pipes answers. refl)
+      room-performed = ap (λ (t : AllTables). t.shared.room) now_same ∙ answered-fields (λ q. q.room) (λ c proc server prio. refl) (λ c number change. refl) prio v.shared its.process process thread call given ∙ same (λ q. q.room) (λ q user pipes answers. refl)
 
       abbrev After : Users → AllTables → Type 0
-      After rows t = Answering rows t.shared × Serves (shown users w.shared w.mounts w.events.events) (given_all rows t.shared t.mounts t.events.events) k l (λ part. settled part (or_kept part (serve_message part thread.proc.num thread.tid moment)))
+      After rows t = Answering rows t.shared × Serves (shown users w.shared w.mounts w.events.events) (given_all rows t.shared t.mounts t.events.events) k l (λ part. settled part (or_kept part (serve_message prio part thread.proc.num thread.tid moment)))
 
       pub performed : (IsReplied given → Gone users w thread call its done.kept v.shared) → (IsReplied given → (lost : Option ServerName) × Loses lost its.process process)
           → Answering (slice_set users thread.proc.user.0 (Some processes)) now.shared
-          × Serves (shown users w.shared w.mounts w.events.events) (given_all (slice_set users thread.proc.user.0 (Some processes)) now.shared now.mounts now.events.events) k l (λ part. settled part (or_kept part (serve_message part thread.proc.num thread.tid moment)))
+          × Serves (shown users w.shared w.mounts w.events.events) (given_all (slice_set users thread.proc.user.0 (Some processes)) now.shared now.mounts now.events.events) k l (λ part. settled part (or_kept part (serve_message prio part thread.proc.num thread.tid moment)))
       performed gone lost =
           subst (After rows) (sym now_same)
           (subst (λ rows. After rows (record earlier { shared = answered.shared })) (sym rows_same)
-          (subst (λ left. After (with_process_of users thread.proc change) (record earlier { shared = answered_queues v.shared its.process left thread call given })) (sym is)
-          (outcome users w thread call its done.kept k l earlier done.of moment bytes given came gone (λ replied. subst (λ left. (lost : Option ServerName) × Loses lost its.process left) is (lost replied)))))
+          (subst (λ left. After (with_process_of users thread.proc change) (record earlier { shared = answered_queues prio v.shared its.process left thread call given })) (sym is)
+          (outcome users w thread call its done.kept prio k l earlier done.of moment bytes given came gone (λ replied. subst (λ left. (lost : Option ServerName) × Loses lost its.process left) is (lost replied)))))

@@ -79,9 +79,9 @@ lines-done users user manager answers part there lines caller lost =
 abbrev without_answers : Shared → Shared
 without_answers c = record c { answered = [] }
 
-lost-cleared : (proc : Proc) (lost : List ServerName) (c : Shared) → without_answers (with_lost proc lost c) ≡ with_lost proc lost (without_answers c)
-lost-cleared proc [] c = refl
-lost-cleared proc (server ∷ lost) c = lost-cleared proc lost (with_shared_disconnect c proc server)
+lost-cleared : (prio : ℕ) (proc : Proc) (lost : List ServerName) (c : Shared) → without_answers (with_lost prio proc lost c) ≡ with_lost prio proc lost (without_answers c)
+lost-cleared prio proc [] c = refl
+lost-cleared prio proc (server ∷ lost) c = lost-cleared prio proc lost (with_shared_disconnect c proc server prio)
 
 module _ (users : Users) (queues : Shared) (thread : Thread) (call : Call) (is : Some call ≡ taken_call (thread_row users thread)) (answering : Answering users queues) where
   abbrev drop_pulse : List Queued → List Queued
@@ -90,12 +90,12 @@ module _ (users : Users) (queues : Shared) (thread : Thread) (call : Call) (is :
   -- a received message is answered while other answers are on their way
   pub Answering-answered : (f : Process → Process) (answer : Answer) → IsAnswer thread.tid answer f
       → (unblock_call (line_at queues.lines (manager_number call.target.manager)) thread ≡ Some call.number → unblock_call (drop_pulse (line_at queues.lines (manager_number call.target.manager))) thread ≡ None)
-      → (lost : Option ServerName) → LosesAt lost (process_of users thread.proc) (process_of (with_process_of users thread.proc f) thread.proc)
-      → Answering (with_process_of users thread.proc f) (with_lost thread.proc (option_to_list lost)
+      → (prio : ℕ) (lost : Option ServerName) → LosesAt lost (process_of users thread.proc) (process_of (with_process_of users thread.proc f) thread.proc)
+      → Answering (with_process_of users thread.proc f) (with_lost prio thread.proc (option_to_list lost)
       (with_shared_line queues (manager_number call.target.manager) (line_without thread.proc.user.0 (item.Unblock thread.proc.num thread.tid call.number))))
-  Answering-answered f answer answers gone lost loses = record {
-    kept = rw (lost-cleared thread.proc (option_to_list lost) changed) (Kept-answered users (without_answers queues) thread call is answering.kept f answer answers gone lost loses);
-    answered = rw (lost-fields thread.proc (λ c. c.answered) (λ c server. refl) (option_to_list lost) changed)
+  Answering-answered f answer answers gone prio lost loses = record {
+    kept = rw (lost-cleared prio thread.proc (option_to_list lost) changed) (Kept-answered users (without_answers queues) thread call is answering.kept f answer answers gone prio lost loses);
+    answered = rw (lost-fields prio thread.proc (λ c. c.answered) (λ c server. refl) (option_to_list lost) changed)
         (awaited queues.answered answering.answered);
   }
     where

@@ -127,20 +127,20 @@ asked c thread (Some call) =
 abbrev pub after_asking : Channel → Thread → Channel
 after_asking c thread = asked c thread (unasked_call (thread_row c.users thread))
 
-abbrev pub withdrawn : Channel → Thread → Option Call → Channel
-withdrawn c thread None = c
-withdrawn c thread (Some call) = record c {
+abbrev pub withdrawn : ℕ → Channel → Thread → Option Call → Channel
+withdrawn prio c thread None = c
+withdrawn prio c thread (Some call) = record c {
   users = with_process_of c.users thread.proc (failed thread.tid EINTR call.target.over);
-  lines = lines_after thread.proc.user.0 c.lines (Remove call.target.manager (item.Message thread.proc.num thread.tid) ∷ disconnects thread.proc.num (failed thread.tid EINTR call.target.over) (process_of c.users thread.proc));
+  lines = lines_after thread.proc.user.0 c.lines (Remove call.target.manager (item.Message thread.proc.num thread.tid) ∷ disconnects prio thread.proc.num (failed thread.tid EINTR call.target.over) (process_of c.users thread.proc));
 }
 
--- once the message of a thread that stands in a line is gone, and with it what its call attached
-abbrev pub after_withdrawing : Channel → Thread → Channel
-after_withdrawing c thread = withdrawn c thread (queued_call (thread_row c.users thread))
+-- once the message of a thread that stands in a line is gone, and with it what its call attached; a disconnect pulse has this priority
+abbrev pub after_withdrawing : ℕ → Channel → Thread → Channel
+after_withdrawing prio c thread = withdrawn prio c thread (queued_call (thread_row c.users thread))
 
 -- once a thread is asked to unblock
-abbrev pub after_interrupt : Channel → Thread → Channel
-after_interrupt c thread = if is_some (queued_call (thread_row c.users thread)) then after_withdrawing c thread else after_asking c thread
+abbrev pub after_interrupt : ℕ → Channel → Thread → Channel
+after_interrupt prio c thread = if is_some (queued_call (thread_row c.users thread)) then after_withdrawing prio c thread else after_asking c thread
 
 -- the outcome for that thread
 abbrev pub interrupt_outcome : Option ThreadRow → Outcome
@@ -189,18 +189,18 @@ abbrev pub exit_outcome : Option Process → Outcome
 exit_outcome None = WrongState
 exit_outcome (Some process) = Done
 
-abbrev pub ended_in : Channel → Proc → Option Process → Channel
-ended_in c proc None = c
-ended_in c proc (Some process) = record c {
+abbrev pub ended_in : ℕ → Channel → Proc → Option Process → Channel
+ended_in prio c proc None = c
+ended_in prio c proc (Some process) = record c {
   users = with_process_of c.users proc ended;
-  lines = lines_after proc.user.0 c.lines (dropped proc.num 0 process.threads ++ map (disconnect proc.num) (lost_servers process (ended process)));
+  lines = lines_after proc.user.0 c.lines (dropped proc.num 0 process.threads ++ map (disconnect prio proc.num) (lost_servers process (ended process)));
   pipes = slice_set c.pipes proc.user.0 (map (option_map (with_abandoned proc.num)) (channel_pipes c proc.user.0));
   events = slice_set c.events proc.user.0 (without_pulses proc.num (channel_events c proc.user.0));
 }
 
--- once a process that is there and has not ended does
-abbrev pub after_exit : Channel → Proc → Channel
-after_exit c proc = ended_in c proc (living (process_of c.users proc))
+-- once a process that is there and has not ended does; its disconnect pulses have this priority
+abbrev pub after_exit : ℕ → Channel → Proc → Channel
+after_exit prio c proc = ended_in prio c proc (living (process_of c.users proc))
 
 -- once a process that has ended is freed, where no server connection of it is left and no call of it waits
 abbrev pub after_freeing : Channel → Proc → Channel

@@ -4,6 +4,7 @@
 
 ghost use Rattle.std.specs.Prelude.{◌≡◌, ◌*◌, ◌≤◌, ℕ, Ok, false, length, max, slice_get, IfOk, IfSome, IsErr, IsOk, IsTrue, OnOk, OnErr, drop, find, nat_lt, vec_capacity};
 ghost use Rattle.std.specs.Option.{option_copied};
+ghost use Rattle.qx_types.specs.Configuration.{limits_of};
 ghost use Rattle.qx_types.specs.Managers.{managers};
 ghost use Rattle.qx_machine.specs.Events.{first_pulse};
 ghost use Rattle.qx_machine.specs.Parts.{thread_of};
@@ -229,15 +230,15 @@ impl Channel {
     /// Asks to unblock a thread (System Architecture: the unblock pulse; C Library Reference: `MsgSend`, EINTR): a message that
     /// stands in a line is taken out of that, and one that was received, or whose call waits, is asked for by a pulse, once a
     /// call. `WrongState` where the thread is not there; nothing happens where it waits for nothing.
-    pub fn interrupt(&mut self, thread: Thread) -> Outcome
+    pub fn interrupt(&mut self, config: &Config, thread: Thread) -> Outcome
         ensures outcome { result ≡ interrupt_outcome (thread_row self.old.users thread) }
-        ensures interrupted { self.new ≡ after_interrupt self.old thread }
+        ensures interrupted { self.new ≡ after_interrupt (limits_of config.now thread.proc.user.0).disconnect self.old thread }
     {
         let Some(cell) = self.users.thread(thread) else {
             return Outcome::WrongState;
         };
         if let Some(call) = call::queued(cell) {
-            self.withdraw(thread, call);
+            self.withdraw(config, thread, call);
         } else if let Some(call) = call::unasked(cell) {
             self.ask_unblock(thread, call);
         }
@@ -261,15 +262,15 @@ impl Channel {
     /// Takes a thread's message out of the line that it stands in, by the call: the thread is answered EINTR, and what its call
     /// attached goes, with the disconnect pulse of a process that has lost its last connection by that (C Library Reference:
     /// `MsgSend`, EINTR).
-    fn withdraw(&mut self, thread: Thread, call: Call)
+    fn withdraw(&mut self, config: &Config, thread: Thread, call: Call)
         requires queued { Some call ≡ queued_call (thread_row self.old.users thread) }
-        ensures withdrawn { self.new ≡ after_withdrawing self.old thread }
+        ensures withdrawn { self.new ≡ after_withdrawing (limits_of config.now thread.proc.user.0).disconnect self.old thread }
     {
         self.tables.shared.withdraw(call.target.manager, thread);
         let lost = self
             .users
             .fail(thread, call.target.over, Errno::EINTR, None);
-        servers::disconnect(&mut self.tables.shared, thread.proc, lost);
+        servers::disconnect(&mut self.tables.shared, config, thread.proc, lost);
     }
 
     /// A thread takes its answer and is ready (C Library Reference: what `MsgSend` returns). None where it is not there or

@@ -2,6 +2,7 @@
 
 ghost use Rattle.std.specs.Prelude.{◌≡◌, ◌≤◌, ℕ, length};
 ghost use Rattle.std.specs.Option.{option_copied};
+ghost use Rattle.qx_types.specs.Configuration.{limits_of};
 ghost use Rattle.qx_types.specs.Managers.{manager_count};
 ghost use Rattle.qx_machine.specs.Processes.{living};
 ghost use Rattle.qx_chan.specs.Channel.{after_exit, after_freeing, exit_outcome};
@@ -14,7 +15,7 @@ use crate::servers;
 use crate::users::Users;
 use qx_process::ThreadCell;
 use qx_shared::Shared;
-use qx_types::{Outcome, Proc, Thread};
+use qx_types::{Config, Outcome, Proc, Thread};
 use std::alloc::Global;
 
 impl Channel {
@@ -22,9 +23,9 @@ impl Channel {
     /// that stand in lines go, and the pulses that ask to unblock them; its answers, its untaken pulses and its connections go.
     /// Each server connection that it used gives its manager a disconnect pulse. Its calls that wait in pipes stay there until
     /// these are worked on, and what workers hold of it stays lent. `WrongState` where it is not there or has ended.
-    pub fn exit(&mut self, alloc: Global, proc: Proc) -> Outcome
+    pub fn exit(&mut self, alloc: Global, config: &Config, proc: Proc) -> Outcome
         ensures outcome { result ≡ exit_outcome (living (process_of self.old.users proc)) }
-        ensures ended { self.new ≡ after_exit self.old proc }
+        ensures ended { self.new ≡ after_exit (limits_of config.now proc.user.0).disconnect self.old proc }
     {
         let Some(process) = self.users.living(proc) else {
             return Outcome::WrongState;
@@ -32,7 +33,7 @@ impl Channel {
         let queues = &mut self.tables.shared;
         drop_all_items(queues, &self.users, proc, process.places());
         queues.abandon(proc);
-        servers::disconnect_all(queues, proc, process);
+        servers::disconnect_all(queues, config, proc, process);
         self.tables.events.clear(proc);
         self.users.end(alloc, proc);
         Outcome::Done

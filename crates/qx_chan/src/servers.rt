@@ -3,6 +3,7 @@
 ghost use Rattle.std.specs.Prelude.{◌≡◌, ◌≤◌, IfSome, IsFalse, IsOk, IsTrue, OnOk, OnErr, Some};
 ghost use Rattle.std.specs.List.{flat_map};
 ghost use Rattle.std.specs.Option.{option_to_list};
+ghost use Rattle.qx_types.specs.Configuration.{limits_of};
 ghost use Rattle.qx_types.specs.Managers.{manager_number};
 ghost use Rattle.qx_process.specs.Reads.{used_servers};
 ghost use Rattle.qx_shared.specs.Shared.{HasThread, has_disconnect_node};
@@ -13,7 +14,7 @@ ghost use Rattle.qx_chan.specs.Nodes.{attaches};
 use qx_machine::{Over, ServerName, Target};
 use qx_process::Process;
 use qx_shared::Shared;
-use qx_types::{Manager, Proc};
+use qx_types::{Config, Manager, Proc};
 use std::alloc::AllocError;
 
 /// Makes room for the disconnect node of what a message goes over.
@@ -48,25 +49,25 @@ pub fn attach(queues: &mut Shared, process: &Process, proc: Proc, target: Target
 }
 
 /// The disconnect pulses of a process that ends, one for each server connection that it uses, go into their managers' lines.
-pub fn disconnect_all(queues: &mut Shared, proc: Proc, process: &Process)
+pub fn disconnect_all(queues: &mut Shared, config: &Config, proc: Proc, process: &Process)
     requires there { AllHaveNodes queues.old proc (used_servers process.now) }
-    ensures disconnected { queues.new ≡ with_lost proc (flat_map option_to_list (used_servers process.now)) queues.old }
+    ensures disconnected { queues.new ≡ with_lost (limits_of config.now proc.user.0).disconnect proc (flat_map option_to_list (used_servers process.now)) queues.old }
 {
     for number in 0..Manager::count() {
         if let Some(manager) = Manager::of_number(number) {
-            disconnect(queues, proc, process.used_server(manager));
+            disconnect(queues, config, proc, process.used_server(manager));
         }
     }
 }
 
-/// The disconnect pulse of a process that has lost a server connection goes into its manager's line (Writing a Resource
-/// Manager: `_PULSE_CODE_DISCONNECT`).
+/// The disconnect pulse of a process that has lost a server connection goes into its manager's line, with the priority that
+/// is configured for the user (Writing a Resource Manager: `_PULSE_CODE_DISCONNECT`).
 #[inline(always)]
-pub fn disconnect(queues: &mut Shared, proc: Proc, lost: Option<ServerName>)
+pub fn disconnect(queues: &mut Shared, config: &Config, proc: Proc, lost: Option<ServerName>)
     requires there { IfSome lost (λ server. IsTrue (has_disconnect_node queues.old proc (manager_number server.manager))) }
-    ensures disconnected { queues.new ≡ with_lost proc (option_to_list lost) queues.old }
+    ensures disconnected { queues.new ≡ with_lost (limits_of config.now proc.user.0).disconnect proc (option_to_list lost) queues.old }
 {
     if let Some(server) = lost {
-        queues.disconnect(proc, server);
+        queues.disconnect(proc, server, config.disconnect_prio(proc.user));
     }
 }

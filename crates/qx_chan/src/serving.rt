@@ -3,6 +3,7 @@
 ghost use Rattle.std.specs.Prelude.{◌≡◌, false, Ok, Option, Some, IfOk, IfSome, IsFalse, IsOk, IsSome, IsTrue, None, OnErr, OnOk, vec_capacity};
 ghost use Rattle.std.specs.Option.{option_copied};
 ghost use Rattle.qx_base.specs.Memory.{Leave};
+ghost use Rattle.qx_types.specs.Configuration.{limits_of};
 ghost use Rattle.qx_types.specs.Managers.{manager_number};
 ghost use Rattle.qx_wire.specs.Reading as reading;
 ghost use Rattle.qx_machine.specs.Machine.{line_without};
@@ -34,7 +35,7 @@ use qx_resmgr::Done;
 use qx_resources::{Resources, context_of};
 use qx_rows::{Reply, Room};
 use qx_shared::Shared;
-use qx_types::{Errno, MessageBytes, Proc, Thread};
+use qx_types::{Config, Errno, MessageBytes, Proc, Thread};
 use qx_wire::{Meaning, Parsed, meaning};
 use std::alloc::AllocError;
 
@@ -48,6 +49,7 @@ impl Channel {
     #[inline(always)]
     pub fn serve(
         &mut self,
+        config: &Config,
         resources: &mut Resources,
         thread: Thread,
         read: Option<&Parsed>,
@@ -57,7 +59,7 @@ impl Channel {
     ) -> Result<bool, AllocError>
         requires user { resources.old.user ≡ thread.proc.user.0 }
         requires read { IsReadOf (option_copied read) (taken_of (thread_row self.old.users thread)) }
-        ensures ok { OnOk result (Serves self.old self.new resources.old resources.new (λ part. settled part (or_kept part (serve_message part thread.proc.num thread.tid moment)))) }
+        ensures ok { OnOk result (Serves self.old self.new resources.old resources.new (λ part. settled part (or_kept part (serve_message (limits_of config.now thread.proc.user.0).disconnect part thread.proc.num thread.tid moment)))) }
         ensures served { IfOk result (λ served. IsTrue served → IsSome (thread_row self.old.users thread)) }
         ensures unserved { IfOk result (λ served. IsFalse served → taken_of (thread_row self.old.users thread) ≡ None) }
         ensures room { OnOk result (self.new.room ≡ self.old.room) }
@@ -87,6 +89,7 @@ impl Channel {
         answer(
             process,
             &mut tables.shared,
+            config,
             thread,
             call,
             given,
@@ -157,6 +160,7 @@ impl Channel {
 fn answer(
     process: &mut Process,
     queues: &mut Shared,
+    config: &Config,
     thread: Thread,
     call: Call,
     given: Result<Done, Errno>,
@@ -169,7 +173,7 @@ fn answer(
     requires nodes { HasServerNodesOf (Some process.old) queues.old thread.proc }
     requires unasked { call.is_asked ≡ false → unblock_call (shared_line queues.old (manager_number call.target.manager)) thread ≡ None }
     ensures process { process.new ≡ answered_process thread.tid call.target.over reply.old given process.old }
-    ensures queues { queues.new ≡ answered_queues queues.old process.old process.new thread call given }
+    ensures queues { queues.new ≡ answered_queues (limits_of config.now thread.proc.user.0).disconnect queues.old process.old process.new thread call given }
     ensures lost { IsReplied given → (lost : Option AnyServer) × Loses lost process.old process.new }
     ensures gone { IsReplied given → unblock_call (shared_line queues.old (manager_number call.target.manager)) thread ≡ Some call.number → unblock_call (line_without thread.proc.user.0 (item.Unblock thread.proc.num thread.tid call.number) (shared_line queues.old (manager_number call.target.manager))) thread ≡ None }
     ensures spare { IsSome spare.new }
@@ -188,7 +192,7 @@ fn answer(
         Err(error) => process.reply_error(thread.tid, over, error, memory),
     };
     drop_pulse(queues, thread, call);
-    servers::disconnect(queues, thread.proc, lost);
+    servers::disconnect(queues, config, thread.proc, lost);
 }
 
 /// The unblock pulse of a call that is answered is in the line no more, where one stands only if the call was asked to unblock

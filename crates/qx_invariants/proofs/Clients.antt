@@ -219,8 +219,8 @@ module _ (part : Part) (stands : Stands part) (h : Clientele part) (number threa
 
 -- ---- what a worker does
 
-message_clientele : (part : Part) → Stands part → Clientele part → (number thread moment : ℕ) → Gives (λ (served : Served). Clientele served.part) (serve_message part number thread moment)
-message_clientele part stands h number thread moment =
+message_clientele : (part : Part) → Stands part → Clientele part → (prio number thread moment : ℕ) → Gives (λ (served : Served). Clientele served.part) (serve_message prio part number thread moment)
+message_clientele part stands h prio number thread moment =
     gives_on _ (found (row_at part.processes number) WrongState) _ (λ process is_process.
     gives_on _ (found (row_at process.threads thread) WrongState) _ (λ row is_row.
     gives_on _ (found (taken_in row.state) WrongState) _ (λ sent is_sent.
@@ -376,7 +376,7 @@ disconnect_clientele part stands h client moment = gives_on _ (found (row_at par
 
 pub serve_clientele : (config : Configuration) (user : ℕ) (held : List OwnItem) (part : Part) (own : OwnItem) (moment : ℕ) → Stands part → Clientele part → Clientele (serve config user held part own moment).part
 unfolding serve
-serve_clientele config user held part (item.Message process thread) moment stands h = kept-keeps Clientele part h _ (message_clientele part stands h process thread moment)
+serve_clientele config user held part (item.Message process thread) moment stands h = kept-keeps Clientele part h _ (message_clientele part stands h (limits_of config user).disconnect process thread moment)
 serve_clientele config user held part (item.Unblock process thread number) moment stands h = kept-keeps Clientele part h _ (pulse_clientele part stands h process thread number moment)
 serve_clientele config user held part (item.Disconnect process server) moment stands h = kept-keeps Clientele part h _ (disconnect_clientele part stands h (record { process = process; server = server }) moment)
 
@@ -532,16 +532,16 @@ module _ (part : Part) (stands : Stands part) (h : Clientele part) where
       by None is none = absurd (cc)
       by (Some process) is has = (process, is, has)
 
-  interrupt_clientele : (thread : Thread) (number : ℕ) (row : ThreadRow) → thread_at part thread.proc.num thread.tid ≡ Some row → (doing : State) → row.state ≡ doing → Gave (interrupt_in part thread number doing)
-  interrupt_clientele thread number row there (state.Queued sent) is =
+  interrupt_clientele : (prio : ℕ) (thread : Thread) (number : ℕ) (row : ThreadRow) → thread_at part thread.proc.num thread.tid ≡ Some row → (doing : State) → row.state ≡ doing → Gave (interrupt_in prio part thread number doing)
+  interrupt_clientele prio thread number row there (state.Queued sent) is =
       let its = thread_there thread.proc.num thread.tid row there in
       let target : target_of thread.tid its.0 ≡ Some sent.target = ap target_of_row its.2 ∙ ap target_in is in
       let f : Process → Process = λ p. after_error thread.tid sent.target.over (with_thread thread.tid (answered_thread (answer.Failed EINTR)) p) in
       let now = error_sound part.resources.mounts its.0 (h.sound thread.proc.num its.0 its.1) thread.tid sent.target target (answered_thread (answer.Failed EINTR)) (λ r. refl) sent.target.over refl in
       same_clientele part h _ (continues_with part.resources.mounts part.processes h.sound thread.proc.num f (λ other here. subst (λ p. KeepsServers p (f p) × IsSound part.resources.mounts (f p)) (same_Some _ _ (sym its.1 ∙ here)) now))
-  interrupt_clientele thread number row there (state.Taken sent) is = cond_both sent.is_asked _ _ Gave (λ asked. h) (λ first. asked_clientele thread)
-  interrupt_clientele thread number row there (state.Waiting sent) is = cond_both sent.is_asked _ _ Gave (λ asked. h) (λ first. asked_clientele thread)
-  interrupt_clientele thread number row there _ is = h
+  interrupt_clientele prio thread number row there (state.Taken sent) is = cond_both sent.is_asked _ _ Gave (λ asked. h) (λ first. asked_clientele thread)
+  interrupt_clientele prio thread number row there (state.Waiting sent) is = cond_both sent.is_asked _ _ Gave (λ asked. h) (λ first. asked_clientele thread)
+  interrupt_clientele prio thread number row there _ is = h
 
   pulse_taken-clientele : (process : ℕ) (first : Option Pulse) → Gave (pulse_taken part process first)
   pulse_taken-clientele process None = h
@@ -561,7 +561,7 @@ module _ (part : Part) (stands : Stands part) (h : Clientele part) where
   client_given-clientele config user held (TakeReply thread) = reply_clientele thread
   client_given-clientele config user held (TakePulse proc) = gives_on _ (found (living (row_at part.processes proc.num)) WrongState) _ (λ process is. gives_done _ _ (pulse_taken-clientele proc.num (first_pulse proc.num part.resources.events)))
   client_given-clientele config user held (SetPrio thread prio) = prio_clientele (limits_of config user).ceiling thread prio.0
-  client_given-clientele config user held (Interrupt thread) = gives_on _ (found (thread_at part thread.proc.num thread.tid) WrongState) _ (λ row is. gives_done _ _ (interrupt_clientele thread row.calls row (found-row _ _ row is) row.state refl))
+  client_given-clientele config user held (Interrupt thread) = gives_on _ (found (thread_at part thread.proc.num thread.tid) WrongState) _ (λ row is. gives_done _ _ (interrupt_clientele (limits_of config user).disconnect thread row.calls row (found-row _ _ row is) row.state refl))
   client_given-clientele config user held (Mount thread path manager) =
       gives_by (λ (mount : MountPoint). MayHappen (Mounts mount) part.resources) _ (mount_by config user part thread path manager) _ (mount_by-gives config user part thread path manager) (λ mount may. gives_done _ _ (mounted_clientele mount may))
   client_given-clientele config user held _ = gives_error _ _

@@ -73,11 +73,11 @@ module _ (part : Part) (named : Client → ℕ) (well : StandsWell part) (h : Co
       let now : Process = after_error thread Side (with_thread thread change process) in
       same_moved part named h number process is_process lives sound.served now (error_resettled process sound.served thread change Side) part.resources h.waiters (λ which. refl) refl
 
-  pub error_connected : Connected (with_process number (λ p. after_error thread target.over (with_thread thread change p)) part) (λ own. named own + puts own (disconnects number (λ p. after_error thread target.over (with_thread thread change p)) (row_at part.processes number)))
-  error_connected =
+  pub error_connected : (prio : ℕ) → Connected (with_process number (λ p. after_error thread target.over (with_thread thread change p)) part) (λ own. named own + puts own (disconnects prio number (λ p. after_error thread target.over (with_thread thread change p)) (row_at part.processes number)))
+  error_connected prio =
       let f : Process → Process = λ p. after_error thread target.over (with_thread thread change p) in
-      moved_connected part named h number process is_process f part.resources (disconnects number f (row_at part.processes number))
-      (subst (λ place. Loses number process (f process) (disconnects number f place)) (sym is_process) (loses_once number process (f process) (error_resettled process sound.served thread change target.over) sound.served)) (error_moved target.over refl)
+      moved_connected part named h number process is_process f part.resources (disconnects prio number f (row_at part.processes number))
+      (subst (λ place. Loses number process (f process) (disconnects prio number f place)) (sym is_process) (loses_once number process (f process) (error_resettled process sound.served thread change target.over) sound.served prio)) (error_moved target.over refl)
 
 -- ---- what becomes of its connection
 

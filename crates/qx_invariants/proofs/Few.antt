@@ -483,8 +483,8 @@ module _ (limits : UserLimits) (part : Part) (served : AllServed part.processes)
   shrunk : (now : List (Option Process)) → AllShrink part.processes now → AreFew limits now
   shrunk now less = few_shrunk limits part.processes now less h
 
-  message_few : (number thread moment : ℕ) → Gives FewServed (serve_message part number thread moment)
-  message_few number thread moment =
+  message_few : (prio number thread moment : ℕ) → Gives FewServed (serve_message prio part number thread moment)
+  message_few prio number thread moment =
       gives_on _ (found (row_at part.processes number) WrongState) _ (λ process is_process.
       gives_on _ (found (row_at process.threads thread) WrongState) _ (λ row is_row.
       gives_on _ (found (taken_in row.state) WrongState) _ (λ sent is_sent.
@@ -503,7 +503,7 @@ module _ (limits : UserLimits) (part : Part) (served : AllServed part.processes)
 
   serve_few : (config : Configuration) (user : ℕ) (held : List OwnItem) (own : OwnItem) (moment : ℕ) → FewServed (serve config user held part own moment)
   unfolding serve
-  serve_few config user held (item.Message process thread) moment = kept-keeps (λ p. AreFew limits p.processes) part h _ (message_few process thread moment)
+  serve_few config user held (item.Message process thread) moment = kept-keeps (λ p. AreFew limits p.processes) part h _ (message_few (limits_of config user).disconnect process thread moment)
   serve_few config user held (item.Unblock process thread call) moment = kept-keeps (λ p. AreFew limits p.processes) part h _ (pulse_few process thread call moment)
   serve_few config user held (item.Disconnect process server) moment = kept-keeps (λ p. AreFew limits p.processes) part h _ (disconnect_few (record { process = process; server = server }) moment)
 
@@ -597,11 +597,11 @@ module _ (config : Configuration) (user : ℕ) (part : Part) (well : StandsWell 
       gives_on _ (found (thread_at part thread.proc.num thread.tid) WrongState) _ (λ row is.
       gives_on _ (may_give ceiling prio) _ (λ allowed is_allowed. gives_done _ _ (one_few thread (ranked_thread prio))))
 
-  interrupt_few : (thread : Thread) (call : ℕ) (doing : State) → FewGiven (interrupt_in part thread call doing)
-  interrupt_few thread call (state.Queued sent) = shrunk limits part all_served h _ (answer_shrinks part all_served thread.proc.num thread.tid sent.target.over (Err EINTR))
-  interrupt_few thread call (state.Taken sent) = cond_both sent.is_asked _ _ FewGiven (λ asked. h) (λ first. one_few thread asked_thread)
-  interrupt_few thread call (state.Waiting sent) = cond_both sent.is_asked _ _ FewGiven (λ asked. h) (λ first. one_few thread asked_thread)
-  interrupt_few thread call _ = h
+  interrupt_few : (prio : ℕ) (thread : Thread) (call : ℕ) (doing : State) → FewGiven (interrupt_in prio part thread call doing)
+  interrupt_few prio thread call (state.Queued sent) = shrunk limits part all_served h _ (answer_shrinks part all_served thread.proc.num thread.tid sent.target.over (Err EINTR))
+  interrupt_few prio thread call (state.Taken sent) = cond_both sent.is_asked _ _ FewGiven (λ asked. h) (λ first. one_few thread asked_thread)
+  interrupt_few prio thread call (state.Waiting sent) = cond_both sent.is_asked _ _ FewGiven (λ asked. h) (λ first. one_few thread asked_thread)
+  interrupt_few prio thread call _ = h
 
   pulse_taken-few : (process : ℕ) (first : Option Pulse) → FewGiven (pulse_taken part process first)
   pulse_taken-few process None = h
@@ -616,7 +616,7 @@ module _ (config : Configuration) (user : ℕ) (part : Part) (well : StandsWell 
   given_few held (TakeReply thread) = reply_few thread
   given_few held (TakePulse proc) = gives_on _ (found (living (row_at part.processes proc.num)) WrongState) _ (λ process is. gives_done _ _ (pulse_taken-few proc.num (first_pulse proc.num part.resources.events)))
   given_few held (SetPrio thread prio) = prio_few (limits_of config user).ceiling thread prio.0
-  given_few held (Interrupt thread) = gives_on _ (found (thread_at part thread.proc.num thread.tid) WrongState) _ (λ row is. gives_done _ _ (interrupt_few thread row.calls row.state))
+  given_few held (Interrupt thread) = gives_on _ (found (thread_at part thread.proc.num thread.tid) WrongState) _ (λ row is. gives_done _ _ (interrupt_few (limits_of config user).disconnect thread row.calls row.state))
   given_few held (Mount thread path manager) = gives_on _ (mount_by config user part thread path manager) _ (λ mount is. gives_done _ _ h)
   given_few held _ = gives_error _ _
 

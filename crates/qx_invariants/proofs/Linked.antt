@@ -125,12 +125,12 @@ module _ (part : Part) (named : Client → ℕ) (well : StandsWell part) (h : Co
 
   -- ---- a process ends
 
-  exit_connected : (number : ℕ) (process : Process) → row_at part.processes number ≡ Some process → Connected (with_process number ended (record part { resources = without_process number part.resources })) (λ own. named own + puts own (dropped number 0 process.threads ++ map (disconnect number) (lost_servers process (ended process))))
-  exit_connected number process there =
-      let lost : List Change = map (disconnect number) (lost_servers process (ended process)) in
+  exit_connected : (prio number : ℕ) (process : Process) → row_at part.processes number ≡ Some process → Connected (with_process number ended (record part { resources = without_process number part.resources })) (λ own. named own + puts own (dropped number 0 process.threads ++ map (disconnect prio number) (lost_servers process (ended process))))
+  exit_connected prio number process there =
+      let lost : List Change = map (disconnect prio number) (lost_servers process (ended process)) in
       fewer_connected (with_process number ended (record part { resources = without_process number part.resources })) (λ own. named own + puts own lost) (λ own. named own + puts own (dropped number 0 process.threads ++ lost))
       (λ own. let both = sum_by-append (λ change. one (is_put_pulse own change)) (dropped number 0 process.threads) lost in let none = dropped_none own number 0 process.threads in omega (arith, both, none))
-      (moved_connected part named h number process there ended (without_process number part.resources) lost (loses_all number process (ended process) (ended_resettled process) (well.clientele.sound number process there).served) (record {
+      (moved_connected part named h number process there ended (without_process number part.resources) lost (loses_all number process (ended process) (ended_resettled process) (well.clientele.sound number process there).served prio) (record {
         opened = λ coid connection which at has. let clash : None ≡ Some connection = at in absurd (cc);
         uses = λ which block at its lives. let clash : true ≡ false = lives in absurd (cc);
         stay = λ which block at apart. ap holding at;
@@ -200,19 +200,19 @@ module _ (part : Part) (named : Client → ℕ) (well : StandsWell part) (h : Co
   asked_connected thread number sent =
       quiet (with_process thread.proc.num (with_thread thread.tid asked_thread) part) (thread_connected thread.proc.num thread.tid asked_thread) (Put sent.target.manager (item.Unblock thread.proc.num thread.tid number) sent.target.prio.0 ∷ []) (λ own. refl)
 
-  interrupt_connected : (thread : Thread) (number : ℕ) (row : ThreadRow) → thread_at part thread.proc.num thread.tid ≡ Some row → (doing : State) → row.state ≡ doing → Gave (interrupt_in part thread number doing)
-  interrupt_connected thread number row there (state.Queued sent) is =
+  interrupt_connected : (prio : ℕ) (thread : Thread) (number : ℕ) (row : ThreadRow) → thread_at part thread.proc.num thread.tid ≡ Some row → (doing : State) → row.state ≡ doing → Gave (interrupt_in prio part thread number doing)
+  interrupt_connected prio thread number row there (state.Queued sent) is =
       let its = thread_there part well.stands well.clientele thread.proc.num thread.tid row there in
       let change : ThreadRow → ThreadRow = answered_thread (answer.Failed EINTR) in
       let f : Process → Process = λ p. after_error thread.tid sent.target.over (with_thread thread.tid change p) in
-      let lost : List Change = disconnects thread.proc.num f (row_at part.processes thread.proc.num) in
+      let lost : List Change = disconnects prio thread.proc.num f (row_at part.processes thread.proc.num) in
       let removed : Change = Remove sent.target.manager (item.Message thread.proc.num thread.tid) in
       fewer_connected (with_process thread.proc.num f part) (λ own. named own + puts own lost) (λ own. named own + puts own (removed ∷ lost))
       (λ own. let all : puts own (removed ∷ lost) ≡ 0 + puts own lost = count-cons (is_put_pulse own) removed lost in omega (arith, all))
-      (error_connected part named well h thread.proc.num thread.tid its.0 its.1 row its.2 sent.target (ap target_in is) change)
-  interrupt_connected thread number row there (state.Taken sent) is = cond_both sent.is_asked _ _ Gave (λ asked. quiet part h [] (λ own. refl)) (λ first. asked_connected thread number sent)
-  interrupt_connected thread number row there (state.Waiting sent) is = cond_both sent.is_asked _ _ Gave (λ asked. quiet part h [] (λ own. refl)) (λ first. asked_connected thread number sent)
-  interrupt_connected thread number row there _ is = quiet part h [] (λ own. refl)
+      (error_connected part named well h thread.proc.num thread.tid its.0 its.1 row its.2 sent.target (ap target_in is) change prio)
+  interrupt_connected prio thread number row there (state.Taken sent) is = cond_both sent.is_asked _ _ Gave (λ asked. quiet part h [] (λ own. refl)) (λ first. asked_connected thread number sent)
+  interrupt_connected prio thread number row there (state.Waiting sent) is = cond_both sent.is_asked _ _ Gave (λ asked. quiet part h [] (λ own. refl)) (λ first. asked_connected thread number sent)
+  interrupt_connected prio thread number row there _ is = quiet part h [] (λ own. refl)
 
   -- ---- events and mounts
 
@@ -227,12 +227,12 @@ module _ (part : Part) (named : Client → ℕ) (well : StandsWell part) (h : Co
   given_connected : (config : Configuration) (user : ℕ) (held : List OwnItem) (e : Step) → Gives Gave (client_given config user held part e)
   given_connected config user held (Spawn of_user threads prio) = spawn_connected (limits_of config user) threads prio.0
   given_connected config user held (Exit proc) =
-      gives_on _ (found (living (row_at part.processes proc.num)) WrongState) _ (λ process is. gives_done _ _ (exit_connected proc.num process (living-there (row_at part.processes proc.num) process (found-row _ _ process is))))
+      gives_on _ (found (living (row_at part.processes proc.num)) WrongState) _ (λ process is. gives_done _ _ (exit_connected (limits_of config user).disconnect proc.num process (living-there (row_at part.processes proc.num) process (found-row _ _ process is))))
   given_connected config user held (Call thread asked) = call_connected config user thread asked
   given_connected config user held (TakeReply thread) = reply_connected thread
   given_connected config user held (TakePulse proc) = gives_on _ (found (living (row_at part.processes proc.num)) WrongState) _ (λ process is. gives_done _ _ (pulse_connected proc.num (first_pulse proc.num part.resources.events)))
   given_connected config user held (SetPrio thread prio) = prio_connected (limits_of config user).ceiling thread prio.0
-  given_connected config user held (Interrupt thread) = gives_on _ (found (thread_at part thread.proc.num thread.tid) WrongState) _ (λ row is. gives_done _ _ (interrupt_connected thread row.calls row (found-row _ _ row is) row.state refl))
+  given_connected config user held (Interrupt thread) = gives_on _ (found (thread_at part thread.proc.num thread.tid) WrongState) _ (λ row is. gives_done _ _ (interrupt_connected (limits_of config user).disconnect thread row.calls row (found-row _ _ row is) row.state refl))
   given_connected config user held (Mount thread path manager) =
       gives_on _ (mount_by config user part thread path manager) _ (λ mount is. gives_done _ _ (quiet (record part { resources = with_mount mount part.resources }) (mounted_connected mount) [] (λ own. refl)))
   given_connected config user held _ = gives_error _ _

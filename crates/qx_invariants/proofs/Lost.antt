@@ -70,8 +70,8 @@ module _ (number : ℕ) (client : Client) where
   abbrev is_its : ServerName → Bool
   is_its server = is_same_client (record { process = number; server = server }) client
 
-  puts-map : (lost : List ServerName) → puts client (map (disconnect number) lost) ≡ count_by is_its lost
-  puts-map lost = count-map (is_put_pulse client) is_its (disconnect number) (λ server. refl) lost
+  puts-map : (prio : ℕ) (lost : List ServerName) → puts client (map (disconnect prio number) lost) ≡ count_by is_its lost
+  puts-map prio lost = count-map (is_put_pulse client) is_its (disconnect prio number) (λ server. refl) lost
 
   -- of another process none is named
   others_none : (lost : List ServerName) → number ≢ client.process → count_by is_its lost ≡ 0
@@ -82,8 +82,8 @@ module _ (number : ℕ) (client : Client) where
       let rest = others_none lost apart in
       omega (arith, all, none, rest)
 
-  pub puts_others : (lost : List ServerName) → number ≢ client.process → puts client (map (disconnect number) lost) ≡ 0
-  puts_others lost apart = puts-map lost ∙ others_none lost apart
+  pub puts_others : (prio : ℕ) (lost : List ServerName) → number ≢ client.process → puts client (map (disconnect prio number) lost) ≡ 0
+  puts_others prio lost apart = puts-map prio lost ∙ others_none lost apart
 
   -- at one manager the client's is not named, or once, and then it was in use and is not
   abbrev IsLostOnce : Manager → Option ℕ → Option ℕ → Type 0
@@ -146,12 +146,12 @@ module _ (number : ℕ) (client : Client) where
               let now_is : one (left_of client.server (Some now)) ≡ 1 = ap one (ap (λ servers. is_left (row_at servers client.server.number)) at_now ∙ left) in
               omega (arith, lost_own, lost.0, before, now_is)
 
-      pub lost_left : puts client (map (disconnect number) (lost_servers process now)) + one (left_of client.server (Some process)) ≤ one (left_of client.server (Some now))
-      lost_left = let named = puts-map (lost_servers process now) in let all = lost_all in omega (arith, named, all)
+      pub lost_left : (prio : ℕ) → puts client (map (disconnect prio number) (lost_servers process now)) + one (left_of client.server (Some process)) ≤ one (left_of client.server (Some now))
+      lost_left prio = let named = puts-map prio (lost_servers process now) in let all = lost_all in omega (arith, named, all)
 
-      pub lost_left_once : puts client (map (disconnect number) (take 1 (lost_servers process now))) + one (left_of client.server (Some process)) ≤ one (left_of client.server (Some now))
-      lost_left_once =
-          let named = puts-map (take 1 (lost_servers process now)) in
+      pub lost_left_once : (prio : ℕ) → puts client (map (disconnect prio number) (take 1 (lost_servers process now))) + one (left_of client.server (Some process)) ≤ one (left_of client.server (Some now))
+      lost_left_once prio =
+          let named = puts-map prio (take 1 (lost_servers process now)) in
           let few = sum_by-take-le (λ server. one (is_its server)) (lost_servers process now) 1 in
           let all = lost_all in
           omega (arith, named, few, all)

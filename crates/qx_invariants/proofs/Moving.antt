@@ -34,11 +34,11 @@ module _ (number : ℕ) (process now : Process) (again : IsResettled process now
   pub loses_none : Loses number process now []
   loses_none = record { own = λ client. let more = none_lost number client process now again served in omega (arith, more); others = λ client apart. refl }
 
-  pub loses_all : Loses number process now (map (disconnect number) (lost_servers process now))
-  loses_all = record { own = λ client. lost_left number client process now again served; others = λ client. puts_others number client (lost_servers process now) }
+  pub loses_all : (prio : ℕ) → Loses number process now (map (disconnect prio number) (lost_servers process now))
+  loses_all prio = record { own = λ client. lost_left number client process now again served prio; others = λ client. puts_others number client prio (lost_servers process now) }
 
-  pub loses_once : Loses number process now (map (disconnect number) (take 1 (lost_servers process now)))
-  loses_once = record { own = λ client. lost_left_once number client process now again served; others = λ client. puts_others number client (take 1 (lost_servers process now)) }
+  pub loses_once : (prio : ℕ) → Loses number process now (map (disconnect prio number) (take 1 (lost_servers process now)))
+  loses_once prio = record { own = λ client. lost_left_once number client process now again served prio; others = λ client. puts_others number client prio (take 1 (lost_servers process now)) }
 
 -- ---- a process changes
 

@@ -277,8 +277,8 @@ pub record Stands (part : Part) : Type 0 where
   pub holds : Holds part.resources
   pub waits_once : WaitsOnce part
 
-message_once : (part : Part) → Stands part → (number thread moment : ℕ) → Gives (λ (served : Served). WaitsOnce served.part) (serve_message part number thread moment)
-message_once part h number thread moment =
+message_once : (part : Part) → Stands part → (prio number thread moment : ℕ) → Gives (λ (served : Served). WaitsOnce served.part) (serve_message prio part number thread moment)
+message_once part h prio number thread moment =
     gives_on _ (found (row_at part.processes number) WrongState) _ (λ process is_process.
     gives_on _ (found (row_at process.threads thread) WrongState) _ (λ row is_row.
     gives_on _ (found (taken_in row.state) WrongState) _ (λ sent is_sent.
@@ -306,7 +306,7 @@ disconnect_once part h client moment =
 
 pub serve_once : (config : Configuration) (user : ℕ) (held : List OwnItem) (part : Part) (own : OwnItem) (moment : ℕ) → Stands part → WaitsOnce (serve config user held part own moment).part
 unfolding serve
-serve_once config user held part (item.Message process thread) moment h = kept-keeps WaitsOnce part h.waits_once _ (message_once part h process thread moment)
+serve_once config user held part (item.Message process thread) moment h = kept-keeps WaitsOnce part h.waits_once _ (message_once part h (limits_of config user).disconnect process thread moment)
 serve_once config user held part (item.Unblock process thread number) moment h = kept-keeps WaitsOnce part h.waits_once _ (pulse_once part h process thread number moment)
 serve_once config user held part (item.Disconnect process server) moment h = kept-keeps WaitsOnce part h.waits_once _ (disconnect_once part h (record { process = process; server = server }) moment)
 
@@ -440,12 +440,12 @@ module _ (part : Part) (h : WaitsOnce part) where
   asked_once : (thread : Thread) → WaitsOnce (with_process thread.proc.num (with_thread thread.tid asked_thread) part)
   asked_once thread = thread_once thread.proc.num thread.tid asked_thread (with_thread thread.tid asked_thread) (λ process. refl) (λ other there. asked_same other.state)
 
-  interrupt_in-once : (thread : Thread) (number : ℕ) (row : ThreadRow) → thread_at part thread.proc.num thread.tid ≡ Some row → (doing : State) → row.state ≡ doing → Gave (interrupt_in part thread number doing)
-  interrupt_in-once thread number row there (state.Queued sent) is =
+  interrupt_in-once : (prio : ℕ) (thread : Thread) (number : ℕ) (row : ThreadRow) → thread_at part thread.proc.num thread.tid ≡ Some row → (doing : State) → row.state ≡ doing → Gave (interrupt_in prio part thread number doing)
+  interrupt_in-once prio thread number row there (state.Queued sent) is =
       row_once thread.proc.num thread.tid (answered_thread (answer.Failed EINTR)) (λ process. after_error thread.tid sent.target.over (with_thread thread.tid (answered_thread (answer.Failed EINTR)) process)) (error_changes thread.tid (answered_thread (answer.Failed EINTR)) sent.target.over) row there (ap count_state_waiting (sym is))
-  interrupt_in-once thread number row there (state.Taken sent) is = cond_both sent.is_asked _ _ Gave (λ asked. h) (λ first. asked_once thread)
-  interrupt_in-once thread number row there (state.Waiting sent) is = cond_both sent.is_asked _ _ Gave (λ asked. h) (λ first. asked_once thread)
-  interrupt_in-once thread number row there _ is = h
+  interrupt_in-once prio thread number row there (state.Taken sent) is = cond_both sent.is_asked _ _ Gave (λ asked. h) (λ first. asked_once thread)
+  interrupt_in-once prio thread number row there (state.Waiting sent) is = cond_both sent.is_asked _ _ Gave (λ asked. h) (λ first. asked_once thread)
+  interrupt_in-once prio thread number row there _ is = h
 
   pulse_taken-once : (process : ℕ) (first : Option Pulse) → Gave (pulse_taken part process first)
   pulse_taken-once process None = h
@@ -506,7 +506,7 @@ module _ (part : Part) (h : WaitsOnce part) where
       gives_on _ (found (living (row_at part.processes proc.num)) WrongState) _ (λ process is. gives_done _ _ (exit_once proc.num process (living-there (row_at part.processes proc.num) process (found-row _ _ process is))))
   client_given-once config user held (TakePulse proc) = gives_on _ (found (living (row_at part.processes proc.num)) WrongState) _ (λ process is. gives_done _ _ (pulse_taken-once proc.num (first_pulse proc.num part.resources.events)))
   client_given-once config user held (SetPrio thread prio) = prio_once (limits_of config user).ceiling thread prio.0
-  client_given-once config user held (Interrupt thread) = gives_on _ (found (thread_at part thread.proc.num thread.tid) WrongState) _ (λ row is. gives_done _ _ (interrupt_in-once thread row.calls row (found-row _ _ row is) row.state refl))
+  client_given-once config user held (Interrupt thread) = gives_on _ (found (thread_at part thread.proc.num thread.tid) WrongState) _ (λ row is. gives_done _ _ (interrupt_in-once (limits_of config user).disconnect thread row.calls row (found-row _ _ row is) row.state refl))
   client_given-once config user held (Mount thread path manager) =
       gives_on _ (mount_by config user part thread path manager) _ (λ mount is. gives_done _ _ (same_once part (record part { resources = with_mount mount part.resources }) h refl (λ p t. refl) (λ p. refl)))
   client_given-once config user held _ = gives_error _ _

@@ -6,7 +6,7 @@ use Rattle.std.proofs.lemmas.Bool.{cases_eq, cond_both, eq-eqb}
 use Rattle.std.proofs.lemmas.List.{length-set}
 use Rattle.std.proofs.lemmas.List.Folds.{position_or_len-set}
 use Rattle.std.proofs.lemmas.Option.{unwrap_or-slice_get}
-use Rattle.qx_types.specs.Configuration.{Configuration}
+use Rattle.qx_types.specs.Configuration.{Configuration, limits_of}
 use Rattle.qx_types.specs.Managers.{manager_number}
 use Rattle.qx_types.specs.declared.names.Manager.{Manager}
 use Rattle.qx_types.specs.declared.outcome.Outcome.{Outcome}
@@ -218,7 +218,7 @@ pub serve_connected : (config : Configuration) (user : ℕ) (held : List OwnItem
 unfolding serve
 serve_connected config user held part (item.Message process thread) moment named well h =
     let now = fewer_connected part (λ own. one (is_pulse own (item.Message process thread)) + named own) named (λ own. omega arith) h in
-    kept_connected part named now _ (message_connected part named well now process thread moment)
+    kept_connected part named now _ (message_connected part named well now (limits_of config user).disconnect process thread moment)
 serve_connected config user held part (item.Unblock process thread number) moment named well h =
     let now = fewer_connected part (λ own. one (is_pulse own (item.Unblock process thread number)) + named own) named (λ own. omega arith) h in
     kept_connected part named now _ (unblock_connected part named well now process thread number moment)

@@ -207,39 +207,39 @@ module _ (part : Part) (named : Client → ℕ) (well : StandsWell part) (h : Co
   serving_resettled None = thread_resettled process its_sound.served thread served_thread
   serving_resettled (Some reply) = reply_resettled process its_sound.served thread (answered_thread (answer.Reply reply.status reply.bytes)) sent.target.over reply.effect
 
-  served_connected : (done : Result (Deed Resources) Errno) → Gives (Kept (Holdings part.resources) (holdings-keep part.resources) part.resources context) done → Gives (λ (deed : Deed Resources). ClosesOwn given deed.reply) done
-      → Connected (served_by part caller sent done).part (λ own. named own + puts own (served_by part caller sent done).changes)
-  served_connected (Ok deed) kept closes =
+  served_connected : (prio : ℕ) (done : Result (Deed Resources) Errno) → Gives (Kept (Holdings part.resources) (holdings-keep part.resources) part.resources context) done → Gives (λ (deed : Deed Resources). ClosesOwn given deed.reply) done
+      → Connected (served_by prio part caller sent done).part (λ own. named own + puts own (served_by prio part caller sent done).changes)
+  served_connected prio (Ok deed) kept closes =
       let k = gives-value (Kept (Holdings part.resources) (holdings-keep part.resources) part.resources context) (Ok deed) deed refl kept in
       let only = gives-value (λ (d : Deed Resources). ClosesOwn given d.reply) (Ok deed) deed refl closes in
       let held = k.kept.held refl in
       let f : Process → Process = after_serving thread sent.target.over deed.reply in
-      let lost : List Change = disconnects number f (row_at part.processes number) in
+      let lost : List Change = disconnects prio number f (row_at part.processes number) in
       let mid : Part = with_process number f (record part { resources = deed.state }) in
-      let loses = subst (λ place. Loses number process (f process) (disconnects number f place)) (sym is_process) (loses_once number process (f process) (serving_resettled deed.reply) its_sound.served) in
+      let loses = subst (λ place. Loses number process (f process) (disconnects prio number f place)) (sym is_process) (loses_once number process (f process) (serving_resettled deed.reply) its_sound.served prio) in
       let moved = done_moved deed.state k.seen k.came held.rows held.fresh held.few k.kept.holds.waiters deed.reply k.own k.effect only in
-      fewer_connected (with_answers deed.answers mid) (λ own. named own + puts own lost) (λ own. named own + puts own (served_by part caller sent (Ok deed)).changes)
-      (λ own. let same : puts own (served_by part caller sent (Ok deed)).changes ≡ puts own lost = served_puts (with_process number f part) own sent.target.manager caller lost deed.answers (is_some deed.reply) in omega (arith, same))
+      fewer_connected (with_answers deed.answers mid) (λ own. named own + puts own lost) (λ own. named own + puts own (served_by prio part caller sent (Ok deed)).changes)
+      (λ own. let same : puts own (served_by prio part caller sent (Ok deed)).changes ≡ puts own lost = served_puts (with_process number f part) own sent.target.manager caller lost deed.answers (is_some deed.reply) in omega (arith, same))
       (answers_connected deed.answers mid (λ own. named own + puts own lost) (moved_connected part named h number process is_process f deed.state lost loses moved))
-  served_connected (Err error) kept closes =
+  served_connected prio (Err error) kept closes =
       let change : ThreadRow → ThreadRow = answered_thread (answer.Failed error) in
       let f : Process → Process = λ p. after_error thread sent.target.over (with_thread thread change p) in
-      let lost : List Change = disconnects number f (row_at part.processes number) in
-      fewer_connected (with_process number f part) (λ own. named own + puts own lost) (λ own. named own + puts own (served_by part caller sent (Err error)).changes)
-      (λ own. let all : puts own (served_by part caller sent (Err error)).changes ≡ 0 + puts own lost = count-cons (is_put_pulse own) (own_change sent.target.manager caller) lost in omega (arith, all))
-      (error_connected part named well h number thread process is_process row is_row sent.target is_target change)
+      let lost : List Change = disconnects prio number f (row_at part.processes number) in
+      fewer_connected (with_process number f part) (λ own. named own + puts own lost) (λ own. named own + puts own (served_by prio part caller sent (Err error)).changes)
+      (λ own. let all : puts own (served_by prio part caller sent (Err error)).changes ≡ 0 + puts own lost = count-cons (is_put_pulse own) (own_change sent.target.manager caller) lost in omega (arith, all))
+      (error_connected part named well h number thread process is_process row is_row sent.target is_target change prio)
 
 -- all that is served so
 abbrev pub ServedWith : (Client → ℕ) → Served → Type 0
 ServedWith named served = Connected served.part (λ own. named own + puts own served.changes)
 
-pub message_connected : (part : Part) (named : Client → ℕ) → StandsWell part → Connected part named → (number thread moment : ℕ) → Gives (ServedWith named) (serve_message part number thread moment)
-message_connected part named well h number thread moment =
+pub message_connected : (part : Part) (named : Client → ℕ) → StandsWell part → Connected part named → (prio number thread moment : ℕ) → Gives (ServedWith named) (serve_message prio part number thread moment)
+message_connected part named well h prio number thread moment =
     gives_on _ (found (row_at part.processes number) WrongState) _ (λ process is_process.
     gives_on _ (found (row_at process.threads thread) WrongState) _ (λ row is_row.
     gives_on _ (found (taken_in row.state) WrongState) _ (λ sent is_sent.
     let context = context_of process (caller_of number thread row sent) sent.target moment (meaning sent.bytes) in
-    gives_done _ _ (served_connected part named well h number thread process (found-row _ _ process is_process) row (found-row _ _ row is_row) sent (found-row _ _ sent is_sent) moment _
+    gives_done _ _ (served_connected part named well h number thread process (found-row _ _ process is_process) row (found-row _ _ row is_row) sent (found-row _ _ sent is_sent) moment prio _
     (deed_kept (Holdings part.resources) (holdings-keep part.resources) part.resources (holdings_first part.resources well.stands.holds) process (caller_of number thread row sent) sent.target moment sent.bytes)
     (closes_own part.resources context (meaning sent.bytes))))))
 

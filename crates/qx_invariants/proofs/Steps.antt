@@ -3,7 +3,7 @@ use Rattle.std.proofs.Common.{◌≡◌, ◌<◌, ℕ, List, [], ◌∷◌, Bool
 use Rattle.std.specs.Prelude.{Result, Ok, Err, Option, Some, None, nat_lt, if◌then◌else◌}
 use Rattle.std.specs.List.{list_any}
 use Rattle.std.proofs.lemmas.Bool.{cond_both, cases_eq, ltb-true}
-use Rattle.qx_types.specs.Configuration.{Configuration, name_bytes}
+use Rattle.qx_types.specs.Configuration.{Configuration, limits_of, name_bytes}
 use Rattle.qx_base.specs.declared.errno.Errno.{Errno}
 use Rattle.qx_base.specs.declared.errno.Errno.TheVariants.{EACCES, EEXIST, ENOSPC}
 use Rattle.qx_types.specs.declared.names.Manager.{Manager}
@@ -131,8 +131,8 @@ module _ (K : Resources → Type 0) (keeps : (change : ResourceChange) (r : Reso
   answer-keeps part process thread over (Ok deed) h kept = subst K (sym (answers-resources deed.answers _)) (gives-value (λ (deed : Deed Resources). K deed.state) (Ok deed) deed refl kept)
   answer-keeps part process thread over (Err error) h kept = h
 
-  message-gives : (part : Part) → Keeps part → (number thread moment : ℕ) → Gives (λ (served : Served). Keeps served.part) (serve_message part number thread moment)
-  message-gives part h number thread moment =
+  message-gives : (part : Part) → Keeps part → (prio number thread moment : ℕ) → Gives (λ (served : Served). Keeps served.part) (serve_message prio part number thread moment)
+  message-gives part h prio number thread moment =
       gives_on _ (found (row_at part.processes number) WrongState) _ (λ process is_process.
       gives_on _ (found (row_at process.threads thread) WrongState) _ (λ row is_row.
       gives_on _ (found (taken_in row.state) WrongState) _ (λ sent is_sent.
@@ -151,7 +151,7 @@ module _ (K : Resources → Type 0) (keeps : (change : ResourceChange) (r : Reso
 
   pub serve-keeps : (config : Configuration) (user : ℕ) (held : List OwnItem) (part : Part) (own : OwnItem) (moment : ℕ) → Keeps part → Keeps (serve config user held part own moment).part
   unfolding serve
-  serve-keeps config user held part (item.Message process thread) moment h = kept-keeps Keeps part h _ (message-gives part h process thread moment)
+  serve-keeps config user held part (item.Message process thread) moment h = kept-keeps Keeps part h _ (message-gives part h (limits_of config user).disconnect process thread moment)
   serve-keeps config user held part (item.Unblock process thread number) moment h = kept-keeps Keeps part h _ (pulse-gives part h process thread number moment)
   serve-keeps config user held part (item.Disconnect process server) moment h = kept-keeps Keeps part h _ (disconnect-gives part h (record { process = process; server = server }) moment)
 
@@ -174,11 +174,11 @@ module _ (K : Resources → Type 0) (keeps : (change : ResourceChange) (r : Reso
   abbrev Gave : ClientStep → Type 0
   Gave given = Keeps given.part
 
-  interrupt-keeps : (part : Part) (thread : Thread) (number : ℕ) (doing : State) → Keeps part → Gave (interrupt_in part thread number doing)
-  interrupt-keeps part thread number (state.Queued sent) h = h
-  interrupt-keeps part thread number (state.Taken sent) h = cond_both sent.is_asked _ _ Gave (λ is. h) (λ is. h)
-  interrupt-keeps part thread number (state.Waiting sent) h = cond_both sent.is_asked _ _ Gave (λ is. h) (λ is. h)
-  interrupt-keeps part thread number _ h = h
+  interrupt-keeps : (prio : ℕ) (part : Part) (thread : Thread) (number : ℕ) (doing : State) → Keeps part → Gave (interrupt_in prio part thread number doing)
+  interrupt-keeps prio part thread number (state.Queued sent) h = h
+  interrupt-keeps prio part thread number (state.Taken sent) h = cond_both sent.is_asked _ _ Gave (λ is. h) (λ is. h)
+  interrupt-keeps prio part thread number (state.Waiting sent) h = cond_both sent.is_asked _ _ Gave (λ is. h) (λ is. h)
+  interrupt-keeps prio part thread number _ h = h
 
   pulse-keeps : (part : Part) (process : ℕ) (first : Option Pulse) → Keeps part → Gave (pulse_taken part process first)
   pulse-keeps part process None h = h
@@ -200,7 +200,7 @@ module _ (K : Resources → Type 0) (keeps : (change : ResourceChange) (r : Reso
   client-gives config user held part (Exit proc) h = gives_on _ (found (living (row_at part.processes proc.num)) WrongState) _ (λ process is. gives_done _ _ (exit-keeps part proc.num h))
   client-gives config user held part (TakePulse proc) h = gives_on _ (found (living (row_at part.processes proc.num)) WrongState) _ (λ process is. gives_done _ _ (pulse-keeps part proc.num (first_pulse proc.num part.resources.events) h))
   client-gives config user held part (SetPrio thread prio) h = search (gives_on, gives_done, h)
-  client-gives config user held part (Interrupt thread) h = gives_on _ (found (thread_at part thread.proc.num thread.tid) WrongState) _ (λ row is. gives_done _ _ (interrupt-keeps part thread row.calls row.state h))
+  client-gives config user held part (Interrupt thread) h = gives_on _ (found (thread_at part thread.proc.num thread.tid) WrongState) _ (λ row is. gives_done _ _ (interrupt-keeps (limits_of config user).disconnect part thread row.calls row.state h))
   client-gives config user held part (Mount thread path manager) h = mount-gives config user part thread path manager h
   client-gives config user held part _ h = gives_error _ _
 

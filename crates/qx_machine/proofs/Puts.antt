@@ -3,7 +3,7 @@ use Rattle.std.proofs.Common.{◌≡◌, ◌∙◌, ℕ, ◌+◌, ◌≤◌, Lis
 use Rattle.std.specs.Prelude.{Option, Some, None, Result, Ok, Err, if◌then◌else◌, is_some, sum_by, take}
 use Rattle.std.proofs.lemmas.Bool.{cond_both}
 use Rattle.std.proofs.lemmas.List.Sums.{sum_by-append, sum_by-cons}
-use Rattle.qx_types.specs.Configuration.{Configuration}
+use Rattle.qx_types.specs.Configuration.{Configuration, limits_of}
 use Rattle.qx_base.specs.declared.errno.Errno.{Errno}
 use Rattle.qx_types.specs.declared.names.Manager.{Manager}
 use Rattle.qx_types.specs.declared.outcome.Answer.{Answer}
@@ -29,7 +29,7 @@ use Rattle.qx_isolation.specs.Rows.{row_at}
 use Rattle.qx_machine.specs.Users.{serve}
 
 module _ (measure : Change → ℕ) (removal-is : (manager : Manager) (removed : OwnItem) → measure (Remove manager removed) ≡ 0)
-    (disconnect-is : (process : ℕ) (server : ServerName) → measure (disconnect process server) ≤ 1) where
+    (disconnect-is : (prio process : ℕ) (server : ServerName) → measure (disconnect prio process server) ≤ 1) where
   abbrev put_by : List Change → ℕ
   put_by changes = sum_by measure changes
 
@@ -54,19 +54,19 @@ module _ (measure : Change → ℕ) (removal-is : (manager : Manager) (removed :
       omega (arith, all, own-put manager caller deed, answers-put deed.answers part, sum_by-append measure own lost)
   served-put part manager caller lost (Err error) = removal-put manager (item.Unblock caller.process caller.thread caller.call) lost
 
-  disconnects-put : (number : ℕ) (change : Process → Process) (process : Option Process) → put_by (disconnects number change process) ≤ 1
-  disconnects-put number change None = omega arith
-  disconnects-put number change (Some process) = first-put (lost_servers process (change process))
+  disconnects-put : (prio number : ℕ) (change : Process → Process) (process : Option Process) → put_by (disconnects prio number change process) ≤ 1
+  disconnects-put prio number change None = omega arith
+  disconnects-put prio number change (Some process) = first-put (lost_servers process (change process))
     where
-      first-put : (lost : List ServerName) → put_by (map (disconnect number) (take 1 lost)) ≤ 1
+      first-put : (lost : List ServerName) → put_by (map (disconnect prio number) (take 1 lost)) ≤ 1
       first-put [] = omega arith
-      first-put (first ∷ rest) = omega (arith, disconnect-is number first, sum_by-cons measure (disconnect number first) [])
+      first-put (first ∷ rest) = omega (arith, disconnect-is prio number first, sum_by-cons measure (disconnect prio number first) [])
 
-  by-put : (part : Part) (caller : Caller) (sent : Sent) (given : Result (Deed Resources) Errno) → put_by (served_by part caller sent given).changes ≤ 1
-  by-put part caller sent given =
+  by-put : (prio : ℕ) (part : Part) (caller : Caller) (sent : Sent) (given : Result (Deed Resources) Errno) → put_by (served_by prio part caller sent given).changes ≤ 1
+  by-put prio part caller sent given =
       let change = after_message caller.thread sent.target.over given in
-      let lost = disconnects caller.process change (row_at part.processes caller.process) in
-      omega (arith, disconnects-put caller.process change (row_at part.processes caller.process), served-put (with_process caller.process change part) sent.target.manager caller lost given)
+      let lost = disconnects prio caller.process change (row_at part.processes caller.process) in
+      omega (arith, disconnects-put prio caller.process change (row_at part.processes caller.process), served-put (with_process caller.process change part) sent.target.manager caller lost given)
 
   abbrev PutsAtMost : ℕ → Part → Result Served Outcome → Type 0
   PutsAtMost most part given = put_by (or_kept part given).changes ≤ most
@@ -82,7 +82,7 @@ module _ (measure : Change → ℕ) (removal-is : (manager : Manager) (removed :
   unfolding serve
   serve_puts_by config user held part (item.Message process thread) moment =
       put_on 1 part (found (row_at part.processes process) WrongState) _ (λ its. put_on 1 part (found (row_at its.threads thread) WrongState) _ (λ row. put_on 1 part (found (taken_in row.state) WrongState) _ (λ sent.
-      by-put part (caller_of process thread row sent) sent (deed_of part.resources (context_of its (caller_of process thread row sent) sent.target moment (meaning sent.bytes)) (meaning sent.bytes)))))
+      by-put (limits_of config user).disconnect part (caller_of process thread row sent) sent (deed_of part.resources (context_of its (caller_of process thread row sent) sent.target moment (meaning sent.bytes)) (meaning sent.bytes)))))
   serve_puts_by config user held part (item.Unblock process thread call) moment =
       put_on 0 part (cancel_call part.resources process thread call moment) _ (λ deed. answered-put deed.answers part)
   serve_puts_by config user held part (item.Disconnect process server) moment =
@@ -90,4 +90,4 @@ module _ (measure : Change → ℕ) (removal-is : (manager : Manager) (removed :
 
 -- each item counts 1
 pub serve_puts : (config : Configuration) (user : ℕ) (held : List OwnItem) (part : Part) (done : OwnItem) (moment : ℕ) → put_count (serve config user held part done moment).changes ≤ most_put done
-serve_puts = serve_puts_by (λ change. if is_put change then 1 else 0) (λ manager removed. refl) (λ process server. omega arith)
+serve_puts = serve_puts_by (λ change. if is_put change then 1 else 0) (λ manager removed. refl) (λ prio process server. omega arith)

@@ -44,11 +44,11 @@ answer_goes : (given : Answer) → is_refusal (outcome_of given) ≡ false
 answer_goes (answer.Reply status bytes) = refl
 answer_goes (answer.Failed error) = refl
 
-interrupt_goes : (part : Part) (thread : Thread) (call : ℕ) (state : State) → Goes (Ok (interrupt_in part thread call state))
-interrupt_goes part thread call (queued sent) = record { goes = refl }
-interrupt_goes part thread call (Taken sent) = cond_both {A = ClientStep} sent.is_asked _ _ (λ given. Goes (Ok given)) (λ asked. record { goes = refl }) (λ unasked. record { goes = refl })
-interrupt_goes part thread call (Waiting sent) = cond_both {A = ClientStep} sent.is_asked _ _ (λ given. Goes (Ok given)) (λ asked. record { goes = refl }) (λ unasked. record { goes = refl })
-interrupt_goes part thread call _ = record { goes = refl }
+interrupt_goes : (prio : ℕ) (part : Part) (thread : Thread) (call : ℕ) (state : State) → Goes (Ok (interrupt_in prio part thread call state))
+interrupt_goes prio part thread call (queued sent) = record { goes = refl }
+interrupt_goes prio part thread call (Taken sent) = cond_both {A = ClientStep} sent.is_asked _ _ (λ given. Goes (Ok given)) (λ asked. record { goes = refl }) (λ unasked. record { goes = refl })
+interrupt_goes prio part thread call (Waiting sent) = cond_both {A = ClientStep} sent.is_asked _ _ (λ given. Goes (Ok given)) (λ asked. record { goes = refl }) (λ unasked. record { goes = refl })
+interrupt_goes prio part thread call _ = record { goes = refl }
 
 pulse_goes : (part : Part) (process : ℕ) (first : Option Pulse) → Goes (Ok (pulse_taken part process first))
 pulse_goes part process None = record { goes = refl }

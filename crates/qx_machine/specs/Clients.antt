@@ -139,14 +139,14 @@ abbrev pub without_process : ℕ → Resources → Resources
 without_process process r = record r { pipes = map (option_map (with_abandoned process)) r.pipes; events = without_pulses process r.events }
 
 -- a process ends: what it has in lines goes, and each of its server connections that is left by that gives its disconnect pulse (C Library
--- Reference: _exit; System Architecture: a client that dies)
-abbrev pub exit : Part → Proc → Result ClientStep Outcome
-exit part proc = do
+-- Reference: _exit; System Architecture: a client that dies), of this priority
+abbrev pub exit : ℕ → Part → Proc → Result ClientStep Outcome
+exit prio part proc = do
   process ← found (living (row_at part.processes proc.num)) WrongState
   Ok (record {
     outcome = Done;
     part = with_process proc.num ended (record part { resources = without_process proc.num part.resources });
-    changes = dropped proc.num 0 process.threads ++ map (disconnect proc.num) (lost_servers process (ended process));
+    changes = dropped proc.num 0 process.threads ++ map (disconnect prio proc.num) (lost_servers process (ended process));
   })
 
 -- ---- what threads do
@@ -159,13 +159,14 @@ set_prio ceiling part thread prio = do
   Ok (record { outcome = Done; part = with_thread_of thread (ranked_thread prio) part; changes = [] })
 
 -- an interrupt of a thread whose message stands in a line: the message goes, the thread is answered EINTR, and what its call attached
--- goes too, with the disconnect pulse of a process that lost its last connection by that (C Library Reference: MsgSend, EINTR)
-abbrev pub dismiss : Part → Thread → Sent → ClientStep
-dismiss part thread sent = record {
+-- goes too, with the disconnect pulse, of this priority, of a process that lost its last connection by that (C Library Reference: MsgSend,
+-- EINTR)
+abbrev pub dismiss : ℕ → Part → Thread → Sent → ClientStep
+dismiss prio part thread sent = record {
   outcome = Done;
   part = after_answer part thread.proc.num thread.tid sent.target.over (Err EINTR);
   changes = Remove sent.target.manager (item.Message thread.proc.num thread.tid) ∷
-      disconnects thread.proc.num (after_message thread.tid sent.target.over (Err EINTR)) (row_at part.processes thread.proc.num);
+      disconnects prio thread.proc.num (after_message thread.tid sent.target.over (Err EINTR)) (row_at part.processes thread.proc.num);
 }
 
 -- of one whose message was received: the message is marked, and a pulse asks its manager to unblock the thread from the call, with the
@@ -181,16 +182,16 @@ ask_unblock part thread call sent = record {
 abbrev pub leave : Part → ClientStep
 leave part = record { outcome = Done; part = part; changes = [] }
 
-abbrev pub interrupt_in : Part → Thread → ℕ → State → ClientStep
-interrupt_in part thread call (Queued sent) = dismiss part thread sent
-interrupt_in part thread call (Taken sent) = if sent.is_asked then leave part else ask_unblock part thread call sent
-interrupt_in part thread call (Waiting sent) = if sent.is_asked then leave part else ask_unblock part thread call sent
-interrupt_in part thread call _ = leave part
+abbrev pub interrupt_in : ℕ → Part → Thread → ℕ → State → ClientStep
+interrupt_in prio part thread call (Queued sent) = dismiss prio part thread sent
+interrupt_in prio part thread call (Taken sent) = if sent.is_asked then leave part else ask_unblock part thread call sent
+interrupt_in prio part thread call (Waiting sent) = if sent.is_asked then leave part else ask_unblock part thread call sent
+interrupt_in prio part thread call _ = leave part
 
-abbrev pub interrupt : Part → Thread → Result ClientStep Outcome
-interrupt part thread = do
+abbrev pub interrupt : ℕ → Part → Thread → Result ClientStep Outcome
+interrupt prio part thread = do
   row ← found (thread_at part thread.proc.num thread.tid) WrongState
-  Ok (interrupt_in part thread row.calls row.state)
+  Ok (interrupt_in prio part thread row.calls row.state)
 
 -- what a ready thread mounts
 abbrev pub mount_by : Configuration → ℕ → Part → Thread → List ℕ → Manager → Result MountPoint Outcome
@@ -209,12 +210,12 @@ mount config user part thread path manager = do
 -- what a client's step gives, or the outcome of one that changes nothing
 abbrev pub client_given : Configuration → ℕ → List OwnItem → Part → Step → Result ClientStep Outcome
 client_given config user held part (Spawn of_user threads prio) = spawn (limits_of config user) part threads prio.0
-client_given config user held part (Exit proc) = exit part proc
+client_given config user held part (Exit proc) = exit (limits_of config user).disconnect part proc
 client_given config user held part (Call thread request) = call config user part thread request
 client_given config user held part (TakeReply thread) = take_reply part thread
 client_given config user held part (TakePulse proc) = take_pulse part proc
 client_given config user held part (SetPrio thread prio) = set_prio (limits_of config user).ceiling part thread prio.0
-client_given config user held part (Interrupt thread) = interrupt part thread
+client_given config user held part (Interrupt thread) = interrupt (limits_of config user).disconnect part thread
 client_given config user held part (Mount thread path manager) = mount config user part thread path manager
 client_given config user held part _ = Err WrongState
 

@@ -1,6 +1,5 @@
 -- All rows of one user, and what a step changes in the lines.
 use Rattle.std.specs.Prelude.{ℕ, List, [], Option, Some, None, map, take}
-use Rattle.qx_types.specs.declared.limits.TheConstants.Limits.{PRIORITY}
 use Rattle.qx_types.specs.declared.names.Thread.{Thread}
 use Rattle.qx_machine.specs.declared.rows.Connection.{Connection}
 use Rattle.qx_isolation.specs.declared.rows.OwnItem.TheVariants as item
@@ -38,12 +37,12 @@ with_thread_of thread change part = with_process thread.proc.num (with_thread th
 
 -- ---- disconnect pulses
 
--- the pulse that a process has lost a server connection, with the highest priority (Writing a Resource Manager: _PULSE_CODE_DISCONNECT; its
--- priority is this profile)
-abbrev pub disconnect : ℕ → ServerName → Change
-disconnect process server = Put server.manager (item.Disconnect process server) PRIORITY
+-- the pulse that a process has lost a server connection, of this priority (Writing a Resource Manager: _PULSE_CODE_DISCONNECT; that its
+-- priority is one of the user's limits is this profile)
+abbrev pub disconnect : ℕ → ℕ → ServerName → Change
+disconnect prio process server = Put server.manager (item.Disconnect process server) prio
 
 -- that of a process whose message changes it so; a message goes to one manager, so there is one at most
-abbrev pub disconnects : ℕ → (Process → Process) → Option Process → List Change
-disconnects number change None = []
-disconnects number change (Some process) = map (disconnect number) (take 1 (lost_servers process (change process)))
+abbrev pub disconnects : ℕ → ℕ → (Process → Process) → Option Process → List Change
+disconnects prio number change None = []
+disconnects prio number change (Some process) = map (disconnect prio number) (take 1 (lost_servers process (change process)))

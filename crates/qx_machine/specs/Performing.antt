@@ -148,19 +148,20 @@ taken_in _ = None
 abbrev pub caller_of : ℕ → ℕ → ThreadRow → Sent → Caller
 caller_of process thread row sent = record { process = process; thread = thread; call = row.calls; is_asked = sent.is_asked }
 
-abbrev pub served_by : Part → Caller → Sent → Result (Deed Resources) Errno → Served
-served_by part caller sent given = record {
+-- the disconnect pulse has this priority
+abbrev pub served_by : ℕ → Part → Caller → Sent → Result (Deed Resources) Errno → Served
+served_by prio part caller sent given = record {
   part = after_answer part caller.process caller.thread sent.target.over given;
-  changes = served_changes (with_process caller.process (after_message caller.thread sent.target.over given) part) sent.target.manager caller (disconnects caller.process (after_message caller.thread sent.target.over given) (row_at part.processes caller.process)) given;
+  changes = served_changes (with_process caller.process (after_message caller.thread sent.target.over given) part) sent.target.manager caller (disconnects prio caller.process (after_message caller.thread sent.target.over given) (row_at part.processes caller.process)) given;
 }
 
--- only a message that was received and not answered is performed
-abbrev pub serve_message : Part → ℕ → ℕ → ℕ → Result Served Outcome
-serve_message part number thread moment = do
+-- only a message that was received and not answered is performed, for a user whose disconnect pulses have this priority
+abbrev pub serve_message : ℕ → Part → ℕ → ℕ → ℕ → Result Served Outcome
+serve_message prio part number thread moment = do
   process ← found (row_at part.processes number) WrongState
   row ← found (row_at process.threads thread) WrongState
   sent ← found (taken_in row.state) WrongState
-  Ok (served_by part (caller_of number thread row sent) sent (deed_of part.resources (context_of process (caller_of number thread row sent) sent.target moment (meaning sent.bytes)) (meaning sent.bytes)))
+  Ok (served_by prio part (caller_of number thread row sent) sent (deed_of part.resources (context_of process (caller_of number thread row sent) sent.target moment (meaning sent.bytes)) (meaning sent.bytes)))
 
 -- calls that waited are answered by what was done
 abbrev pub answering : Part → Deed Resources → Served

@@ -27,7 +27,7 @@ take part (Disconnect process server) = part
 
 -- what a worker does with an item that it holds, at a moment
 unfoldable pub serve : Configuration → ℕ → List OwnItem → Part → OwnItem → ℕ → Served
-serve config user held part (Message process thread) moment = or_kept part (serve_message part process thread moment)
+serve config user held part (Message process thread) moment = or_kept part (serve_message (limits_of config user).disconnect part process thread moment)
 serve config user held part (Unblock process thread call) moment = or_kept part (serve_pulse part process thread call moment)
 serve config user held part (Disconnect process server) moment = or_kept part (serve_disconnect part (record { process = process; server = server }) moment)
 

@@ -73,7 +73,7 @@ weight_put changes = sum_by weight_put_by changes
 
 -- all that is put is one pulse, and only a message puts it
 serve_puts : (config : Configuration) (user : ℕ) (held : List OwnItem) (part : Part) (item : OwnItem) (moment : ℕ) → weight_put (serve config user held part item moment).changes ≤ most_put item
-serve_puts = serve_puts_by weight_put_by (λ manager item. refl) (λ process server. omega arith)
+serve_puts = serve_puts_by weight_put_by (λ manager item. refl) (λ prio process server. omega arith)
 
 -- ---- the lines after changes
 

@@ -252,12 +252,12 @@ module _ (rank : Queued → ℕ) (line : List Queued) (thread : Thread) (call pr
       field_here = rw (is_same_thread-self thread) refl
 
 -- a disconnect pulse goes into a line
-module _ (rank : Queued → ℕ) (line : List Queued) (proc : Proc) (server : ServerName) (other : Thread) where
-  pub stands-disconnected : stands (into rank line (disconnect_of proc server)) other ≡ stands line other
-  stands-disconnected = ap is_some (field-into_none as_message other rank line (disconnect_of proc server) (field-nothing (is_same_thread (sender (disconnect_of proc server)) other)))
+module _ (rank : Queued → ℕ) (line : List Queued) (proc : Proc) (server : ServerName) (prio : ℕ) (other : Thread) where
+  pub stands-disconnected : stands (into rank line (disconnect_of proc server prio)) other ≡ stands line other
+  stands-disconnected = ap is_some (field-into_none as_message other rank line (disconnect_of proc server prio) (field-nothing (is_same_thread (sender (disconnect_of proc server prio)) other)))
 
-  pub call-disconnected : unblock_call (into rank line (disconnect_of proc server)) other ≡ unblock_call line other
-  call-disconnected = field-into_none pulse_call other rank line (disconnect_of proc server) (field-nothing (is_same_thread (sender (disconnect_of proc server)) other))
+  pub call-disconnected : unblock_call (into rank line (disconnect_of proc server prio)) other ≡ unblock_call line other
+  call-disconnected = field-into_none pulse_call other rank line (disconnect_of proc server prio) (field-nothing (is_same_thread (sender (disconnect_of proc server prio)) other))
 
 -- a thread's message goes out of a line
 module _ (line : List Queued) (thread other : Thread) where

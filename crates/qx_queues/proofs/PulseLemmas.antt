@@ -80,8 +80,8 @@ module _ (lines : List (List Queued)) (number : ℕ) (asked : Thread → Option 
   pub pulses-sent : (rank : Queued → ℕ) (thread : Thread) (prio : ℕ) → KnowsPulses (with_line lines number (λ line. into rank line (message_of thread prio))) asked
   pulses-sent rank thread prio = kept (λ line. into rank line (message_of thread prio)) (λ other. call-sent rank (line_at lines number) thread prio other)
 
-  pub pulses-disconnected : (rank : Queued → ℕ) (proc : Proc) (server : ServerName) → KnowsPulses (with_line lines number (λ line. into rank line (disconnect_of proc server))) asked
-  pulses-disconnected rank proc server = kept (λ line. into rank line (disconnect_of proc server)) (λ other. call-disconnected rank (line_at lines number) proc server other)
+  pub pulses-disconnected : (rank : Queued → ℕ) (proc : Proc) (server : ServerName) (prio : ℕ) → KnowsPulses (with_line lines number (λ line. into rank line (disconnect_of proc server prio))) asked
+  pulses-disconnected rank proc server prio = kept (λ line. into rank line (disconnect_of proc server prio)) (λ other. call-disconnected rank (line_at lines number) proc server prio other)
 
   pub pulses-withdrawn : (thread : Thread) → KnowsPulses (with_line lines number (line_without thread.proc.user.0 (item.Message thread.proc.num thread.tid))) asked
   pulses-withdrawn thread = kept (line_without thread.proc.user.0 (item.Message thread.proc.num thread.tid)) (λ other. call-withdrawn (line_at lines number) thread other)

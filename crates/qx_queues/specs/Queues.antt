@@ -11,7 +11,7 @@ use Rattle.qx_types.specs.contracts.names.Proc as proc_row
 use Rattle.qx_types.specs.contracts.names.Thread as thread_row
 use Rattle.qx_types.specs.contracts.outcome.Answer as answer_row
 use Rattle.qx_types.specs.Managers.{manager_count, manager_number}
-use Rattle.qx_types.specs.declared.limits.TheConstants.Limits.{PRIORITY, THREADS}
+use Rattle.qx_types.specs.declared.limits.TheConstants.Limits.{THREADS}
 use Rattle.qx_types.specs.declared.names.Proc.{Proc}
 use Rattle.qx_types.specs.declared.names.Thread.{Thread}
 use Rattle.qx_types.specs.declared.outcome.Answer.{Answer}
@@ -100,8 +100,8 @@ abbrev pub unblock_of : Thread → ℕ → ℕ → Queued
 unblock_of thread call prio = queued_item thread.proc.user.0 (item.Unblock thread.proc.num thread.tid call) prio
 
 -- the disconnect pulse of a process as it stands in a line
-abbrev pub disconnect_of : Proc → ServerName → Queued
-disconnect_of proc server = queued_item proc.user.0 (item.Disconnect proc.num server) PRIORITY
+abbrev pub disconnect_of : Proc → ServerName → ℕ → Queued
+disconnect_of proc server prio = queued_item proc.user.0 (item.Disconnect proc.num server) prio
 
 abbrev pub sender_of : ℕ → OwnItem → Thread
 sender_of user (item.Message process thread) = record { proc = record { user = record { 0 = user }; num = process }; tid = thread }
@@ -257,8 +257,8 @@ abbrev pub with_server_node : Queues → Proc → ℕ → Queues
 with_server_node c proc number = record c { servers = set.insert c.servers (proc, number); room = if has_server_node c proc number then c.room else c.room - 1 }
 
 -- it has none any more, and its disconnect pulse stands in the manager's line
-abbrev pub with_disconnect : Queues → Proc → ServerName → Queues
-with_disconnect c proc server = record (with_queues_line c (manager_number server.manager) (λ line. into rank line (disconnect_of proc server))) { servers = set.remove c.servers (proc, manager_number server.manager) }
+abbrev pub with_disconnect : Queues → Proc → ServerName → ℕ → Queues
+with_disconnect c proc server prio = record (with_queues_line c (manager_number server.manager) (λ line. into rank line (disconnect_of proc server prio))) { servers = set.remove c.servers (proc, manager_number server.manager) }
 
 abbrev pub nodes_freed_by : OwnItem → ℕ
 nodes_freed_by (item.Message process thread) = 0

@@ -342,16 +342,17 @@ impl Queues {
     }
 
     /// A process has lost a server connection: its disconnect node at that manager goes into the manager's line as the pulse
-    /// that tells so (Writing a Resource Manager: `_PULSE_CODE_DISCONNECT`).
-    pub fn disconnect(&mut self, proc: Proc, server: ServerName)
+    /// that tells so (Writing a Resource Manager: `_PULSE_CODE_DISCONNECT`), with a priority.
+    pub fn disconnect(&mut self, proc: Proc, server: ServerName, prio: Prio)
         requires there { IsTrue (has_server_node self.old proc (manager_number server.manager)) }
-        ensures disconnected { self.new ≡ with_disconnect self.old proc server }
+        requires lowest { 1 ≤ prio.0 }
+        ensures disconnected { self.new ≡ with_disconnect self.old proc server prio.0 }
     {
         let Some(node) = self.nodes.disconnect(proc, server.manager) else {
             unreachable!();
         };
         let line = &mut self.lines[server.manager.number()];
-        let pulse = queued_disconnect(proc, server);
+        let pulse = queued_disconnect(proc, server, prio);
         put_in(&mut self.table, line, node, pulse);
         self.marks = marked(self.marks, server.manager.number(), true);
         self.nodes.set_disconnect(proc, server.manager, None);
@@ -388,8 +389,8 @@ fn queued_unblock(thread: Thread, call: u64, prio: Prio) -> Queued
 }
 
 /// The disconnect pulse of a process, as it stands in a line.
-fn queued_disconnect(proc: Proc, server: ServerName) -> Queued
-    ensures pulse { result ≡ disconnect_of proc server }
+fn queued_disconnect(proc: Proc, server: ServerName, prio: Prio) -> Queued
+    ensures pulse { result ≡ disconnect_of proc server prio.0 }
 {
     Queued {
         user: proc.user,
@@ -397,7 +398,7 @@ fn queued_disconnect(proc: Proc, server: ServerName) -> Queued
             process: proc.num,
             server,
         },
-        prio: Prio(Limits::PRIORITY),
+        prio,
     }
 }
 

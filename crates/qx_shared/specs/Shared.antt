@@ -116,8 +116,8 @@ abbrev pub with_shared_server : Shared → Proc → ℕ → Shared
 with_shared_server c proc number = record c { servers = set.insert c.servers (proc, number); room = if has_disconnect_node c proc number then c.room else c.room - 1 }
 
 -- it has none any more, and its disconnect pulse stands in the manager's line
-abbrev pub with_shared_disconnect : Shared → Proc → ServerName → Shared
-with_shared_disconnect c proc server = record (with_shared_line c (manager_number server.manager) (λ line. into rank line (disconnect_of proc server))) { servers = set.remove c.servers (proc, manager_number server.manager) }
+abbrev pub with_shared_disconnect : Shared → Proc → ServerName → ℕ → Shared
+with_shared_disconnect c proc server prio = record (with_shared_line c (manager_number server.manager) (λ line. into rank line (disconnect_of proc server prio))) { servers = set.remove c.servers (proc, manager_number server.manager) }
 
 -- the first item of a line is taken, and there is room for the node that is given back
 abbrev pub without_first_shared : Shared → ℕ → Shared

@@ -201,11 +201,12 @@ impl Shared {
     }
 
     /// A process has lost a server connection: its disconnect node at that manager goes into the manager's line as the pulse
-    /// that tells so (Writing a Resource Manager: `_PULSE_CODE_DISCONNECT`).
-    pub fn disconnect(&mut self, proc: Proc, server: ServerName)
+    /// that tells so (Writing a Resource Manager: `_PULSE_CODE_DISCONNECT`), with a priority.
+    pub fn disconnect(&mut self, proc: Proc, server: ServerName, prio: Prio)
         requires there { IsTrue (has_disconnect_node self.old proc (manager_number server.manager)) }
-        ensures disconnected { self.new ≡ with_shared_disconnect self.old proc server }
+        requires lowest { 1 ≤ prio.0 }
+        ensures disconnected { self.new ≡ with_shared_disconnect self.old proc server prio.0 }
     {
-        self.queues.disconnect(proc, server);
+        self.queues.disconnect(proc, server, prio);
     }
 }

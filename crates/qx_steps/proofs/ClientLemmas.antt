@@ -250,6 +250,10 @@ module _ (config : Configuration) (c : Channel) (ks : List (Option Kept)) (hands
 
   -- ---- interrupt
 
+  -- the priority of its disconnect pulse
+  abbrev pulse_prio : Thread → ℕ
+  pulse_prio thread = (limits_of config thread.proc.user.0).disconnect
+
   interrupt-nobody : (thread : Thread) → thread_row c.users thread ≡ None → step w (Interrupt thread) ≡ record { world = w; outcome = WrongState }
   unfolding step client
   interrupt-nobody thread none = elim (option_cases (row_at c.users thread.proc.user.0)) [
@@ -282,7 +286,7 @@ module _ (config : Configuration) (c : Channel) (ks : List (Option Kept)) (hands
       asked_left : AreLeft (held thread.proc.user.0 ps o) (r thread.proc.user.0 ps o).pipes 0 (with_row ps thread.proc.num (with_thread thread.tid asked_thread))
       asked_left = left-thread (held thread.proc.user.0 ps o) (r thread.proc.user.0 ps o).pipes ps thread.proc.num thread.tid asked_thread o.left
 
-      dismisses : row.state ≡ state.Queued sent → step w (Interrupt thread) ≡ record { world = told_world config (after_withdrawing c thread) rs hands; outcome = Done }
+      dismisses : row.state ≡ state.Queued sent → step w (Interrupt thread) ≡ record { world = told_world config (after_withdrawing (pulse_prio thread) c thread) rs hands; outcome = Done }
       unfolding step client
       dismisses is =
           rw (o.part, o.users, its, is, o.users, ended_with thread.proc.user.0 ps o (with_row ps thread.proc.num failing) failed_left, changed thread.proc.user.0 ps o (with_row ps thread.proc.num failing)) refl
@@ -316,10 +320,10 @@ module _ (config : Configuration) (c : Channel) (ks : List (Option Kept)) (hands
   ]
 
   interrupt-queued : (thread : Thread) (row : ThreadRow) (sent : Message) → thread_row c.users thread ≡ Some row → row.state ≡ state.Queued sent
-      → step w (Interrupt thread) ≡ record { world = world_of config (after_withdrawing c thread) ks hands; outcome = Done }
+      → step w (Interrupt thread) ≡ record { world = world_of config (after_withdrawing (pulse_prio thread) c thread) ks hands; outcome = Done }
   interrupt-queued thread row sent there is =
       let it = there_by thread row there in
-      by_channel (Interrupt thread) (after_withdrawing c thread) Done (still-withdrawing c ks sound.users thread).waits (dismisses thread row it.ps it.o it.its sent is)
+      by_channel (Interrupt thread) (after_withdrawing (pulse_prio thread) c thread) Done (still-withdrawing c ks sound.users (pulse_prio thread) thread).waits (dismisses thread row it.ps it.o it.its sent is)
 
   interrupt-unqueued : (thread : Thread) (row : ThreadRow) → thread_row c.users thread ≡ Some row → queued_in row.state ≡ None
       → step w (Interrupt thread) ≡ record { world = world_of config (after_asking c thread) ks hands; outcome = Done }
@@ -335,7 +339,7 @@ module _ (config : Configuration) (c : Channel) (ks : List (Option Kept)) (hands
       by_state (state.Waiting sent) same is = asks_waiting thread row it.ps it.o it.its sent same
       by_state (state.Answered answer) same is = unasked-answered thread row it.ps it.o it.its answer same
 
-  pub interrupt-step : (thread : Thread) → step w (Interrupt thread) ≡ record { world = world_of config (after_interrupt c thread) ks hands; outcome = interrupt_outcome (thread_row c.users thread) }
+  pub interrupt-step : (thread : Thread) → step w (Interrupt thread) ≡ record { world = world_of config (after_interrupt (pulse_prio thread) c thread) ks hands; outcome = interrupt_outcome (thread_row c.users thread) }
   interrupt-step thread = elim (option_cases (thread_row c.users thread)) [
     | inl none ↦ rw none (interrupt-nobody thread none)
     | inr row ↦
@@ -371,8 +375,8 @@ module _ (config : Configuration) (c : Channel) (ks : List (Option Kept)) (hands
   pub call-sound : (thread : Thread) (request : Request) → IsSound config (after_call c thread request (call_target config c thread request)) ks hands
   call-sound thread request = after_sound _ _ _ (still_called thread request (call_target config c thread request)) (call-step thread request)
 
-  pub interrupt-sound : (thread : Thread) → IsSound config (after_interrupt c thread) ks hands
-  interrupt-sound thread = after_sound _ _ _ (still-interrupting c ks sound.users thread).of (interrupt-step thread)
+  pub interrupt-sound : (thread : Thread) → IsSound config (after_interrupt (pulse_prio thread) c thread) ks hands
+  interrupt-sound thread = after_sound _ _ _ (still-interrupting c ks sound.users (pulse_prio thread) thread).of (interrupt-step thread)
 
 -- a spawn that is refused
 pub spawn-refused : (number : Result ℕ Outcome) → IsTrue (is_refusal (spawn_outcome number)) → IsErr number

@@ -2,7 +2,7 @@
 use Rattle.std.proofs.Common.{◌≡◌, ◌≢◌, inl, inr, ℕ, zero, suc, ◌+◌, get_or, List, [], ◌∷◌, Option, Some, None, map, replicate, refl, sym, ap, subst, ◌∙◌, arith}
 use Rattle.std.specs.Prelude.{option_map, slice_set}
 use Rattle.std.proofs.lemmas.List.{get_or-set_other, set-set}
-use Rattle.qx_types.specs.Configuration.{Configuration}
+use Rattle.qx_types.specs.Configuration.{Configuration, limits_of}
 use Rattle.qx_types.specs.declared.limits.TheConstants.Limits.{INODES, PROCESSES}
 use Rattle.qx_types.specs.declared.names.Proc.{Proc}
 use Rattle.qx_types.specs.declared.outcome.Outcome.{Outcome}
@@ -71,6 +71,10 @@ module _ (config : Configuration) (c : Channel) (ks : List (Option Kept)) (hands
   abbrev held : List OwnItem
   held = own_held proc.user.0 hands
 
+  -- the priority of the disconnect pulses
+  abbrev prio : ℕ
+  prio = (limits_of config proc.user.0).disconnect
+
   -- the channel once the user's processes are freed
   abbrev freed : Channel → Channel
   freed d = with_left d held proc.user.0
@@ -79,7 +83,7 @@ module _ (config : Configuration) (c : Channel) (ks : List (Option Kept)) (hands
   abbrev came : Channel → Outcome → After
   came d outcome = record { world = world_of config d ks hands; outcome = outcome }
 
-  nobody-ends : row_at c.users proc.user.0 ≡ None → step w (Exit proc) ≡ came (freed (after_exit c proc)) (exit_outcome (living (process_of c.users proc)))
+  nobody-ends : row_at c.users proc.user.0 ≡ None → step w (Exit proc) ≡ came (freed (after_exit prio c proc)) (exit_outcome (living (process_of c.users proc)))
   unfolding step client
   nobody-ends none = rw (nobody config c ks hands sound proc.user.0 none, none, with_row-none c.users proc.user.0 (processes_left held (channel_pipes c proc.user.0) 0) none) refl
 
@@ -108,15 +112,15 @@ module _ (config : Configuration) (c : Channel) (ks : List (Option Kept)) (hands
       row : living (process_of c.users proc) ≡ None
       row = ap living its ∙ none
 
-      none-ends : step w (Exit proc) ≡ came (freed (after_exit c proc)) (exit_outcome (living (process_of c.users proc)))
-      none-ends = refused ∙ sym (ap (λ row. came (freed (ended_in c proc row)) (exit_outcome row)) row ∙ ap (λ d. came d WrongState) unfreed)
+      none-ends : step w (Exit proc) ≡ came (freed (after_exit prio c proc)) (exit_outcome (living (process_of c.users proc)))
+      none-ends = refused ∙ sym (ap (λ row. came (freed (ended_in prio c proc row)) (exit_outcome row)) row ∙ ap (λ d. came d WrongState) unfreed)
 
     -- ---- a process that lives
 
     module _ (process : Process) (there : living (row_at ps proc.num) ≡ Some process) where
       -- the channel once it has ended, and the user's rows
       abbrev d : Channel
-      d = ended_in c proc (Some process)
+      d = ended_in prio c proc (Some process)
 
       abbrev qs : List (Option Process)
       qs = with_row ps proc.num ended
@@ -172,10 +176,10 @@ module _ (config : Configuration) (c : Channel) (ks : List (Option Kept)) (hands
       row-there : living (process_of c.users proc) ≡ Some process
       row-there = ap living its ∙ there
 
-      one-ends : step w (Exit proc) ≡ came (freed (after_exit c proc)) (exit_outcome (living (process_of c.users proc)))
+      one-ends : step w (Exit proc) ≡ came (freed (after_exit prio c proc)) (exit_outcome (living (process_of c.users proc)))
       one-ends =
           done
-          ∙ sym (ap (λ row. came (freed (ended_in c proc row)) (exit_outcome row)) row-there
+          ∙ sym (ap (λ row. came (freed (ended_in prio c proc row)) (exit_outcome row)) row-there
           ∙ (ap (λ d. came d Done) freed-is ∙ ap (λ parts. record { world = record { config = config; parts = parts; lines = d.lines; hands = hands }; outcome = Done }) parts-then))
 
   -- no other process is freed
@@ -184,18 +188,18 @@ module _ (config : Configuration) (c : Channel) (ks : List (Option Kept)) (hands
     before_left : processes_left held (channel_pipes c proc.user.0) 0 ps ≡ ps
     before_left = subst (λ user. processes_left held (channel_pipes c user) 0 ps ≡ ps) o.own o.left
 
-    none-else : living (row_at ps proc.num) ≡ None → with_one_left (after_exit c proc) held proc ≡ freed (after_exit c proc)
+    none-else : living (row_at ps proc.num) ≡ None → with_one_left (after_exit prio c proc) held proc ≡ freed (after_exit prio c proc)
     none-else none =
         let row : living (process_of c.users proc) ≡ None = ap living (ap (process_of_user proc.num) o.users) ∙ none in
         let same : row_left held (channel_pipes c proc.user.0) proc.num (row_at ps proc.num) ≡ row_at ps proc.num = left-row held (channel_pipes c proc.user.0) ps proc.num before_left in
-        subst (λ row. with_one_left (ended_in c proc row) held proc ≡ freed (ended_in c proc row)) (sym row) (
+        subst (λ row. with_one_left (ended_in prio c proc row) held proc ≡ freed (ended_in prio c proc row)) (sym row) (
         ap (λ users. record c { users = users }) (rw o.users (ap (λ rows. slice_set c.users proc.user.0 (Some rows)) (ap (slice_set ps proc.num) same ∙ set-row_at ps proc.num ∙ sym before_left)))
         )
 
-    one-else : (process : Process) → living (row_at ps proc.num) ≡ Some process → with_one_left (after_exit c proc) held proc ≡ freed (after_exit c proc)
+    one-else : (process : Process) → living (row_at ps proc.num) ≡ Some process → with_one_left (after_exit prio c proc) held proc ≡ freed (after_exit prio c proc)
     one-else process there =
         let row : living (process_of c.users proc) ≡ Some process = ap living (ap (process_of_user proc.num) o.users) ∙ there in
-        let d : Channel = ended_in c proc (Some process) in
+        let d : Channel = ended_in prio c proc (Some process) in
         let x : Option Process = option_map ended (row_at ps proc.num) in
         let rows : row_at d.users proc.user.0 ≡ Some (slice_set ps proc.num x) = row_at-with_same c.users proc.user.0 (λ processes. with_row processes proc.num ended) ∙ ap (option_map (λ processes. with_row processes proc.num ended)) o.users in
         let pipes : channel_pipes d proc.user.0 ≡ map (option_map (with_abandoned proc.num)) (channel_pipes c proc.user.0) =
@@ -208,15 +212,15 @@ module _ (config : Configuration) (c : Channel) (ks : List (Option Kept)) (hands
         let its : row_at (slice_set ps proc.num x) proc.num ≡ x = row_at-with_same ps proc.num ended in
         let one : slice_set (slice_set ps proc.num x) proc.num (row_left held (channel_pipes d proc.user.0) proc.num (row_at (slice_set ps proc.num x) proc.num)) ≡ slice_set ps proc.num (row_left held (channel_pipes d proc.user.0) proc.num x) =
         set-set ps proc.num x (row_left held (channel_pipes d proc.user.0) proc.num (row_at (slice_set ps proc.num x) proc.num)) ∙ ap (λ y. slice_set ps proc.num (row_left held (channel_pipes d proc.user.0) proc.num y)) its in
-        subst (λ row. with_one_left (ended_in c proc row) held proc ≡ freed (ended_in c proc row)) (sym row) (
+        subst (λ row. with_one_left (ended_in prio c proc row) held proc ≡ freed (ended_in prio c proc row)) (sym row) (
         ap (λ users. record d { users = users }) (rw rows (ap (λ rows. slice_set d.users proc.user.0 (Some rows)) (one ∙ sym all)))
         )
 
-  one-freed_alone : with_one_left (after_exit c proc) held proc ≡ freed (after_exit c proc)
+  one-freed_alone : with_one_left (after_exit prio c proc) held proc ≡ freed (after_exit prio c proc)
   one-freed_alone = elim (option_cases (row_at c.users proc.user.0)) [
     | inl none ↦
         let row : living (process_of c.users proc) ≡ None = ap (λ processes. living (process_of_user proc.num processes)) none in
-        subst (λ row. with_one_left (ended_in c proc row) held proc ≡ freed (ended_in c proc row)) (sym row) (nobody-left c held proc none ∙ sym (nobody_left c held proc.user.0 none))
+        subst (λ row. with_one_left (ended_in prio c proc row) held proc ≡ freed (ended_in prio c proc row)) (sym row) (nobody-left c held proc none ∙ sym (nobody_left c held proc.user.0 none))
     | inr ps ↦
         let o = owner config c ks hands sound proc.user.0 ps.0 ps.1 in
         elim (option_cases (living (row_at ps.0 proc.num))) [
@@ -226,11 +230,11 @@ module _ (config : Configuration) (c : Channel) (ks : List (Option Kept)) (hands
   ]
 
   -- once the process is freed that ended, if nothing is left of it, all are that can be
-  pub exit-freed : (old now : Channel) → old ≡ after_exit c proc → now ≡ record (with_one_left old held proc) { room = now.room } → now ≡ record (freed (after_exit c proc)) { room = now.room }
+  pub exit-freed : (old now : Channel) → old ≡ after_exit prio c proc → now ≡ record (with_one_left old held proc) { room = now.room } → now ≡ record (freed (after_exit prio c proc)) { room = now.room }
   exit-freed old now comes is =
       is ∙ ap {A = Channel} (λ d. record (with_one_left d held proc) { room = now.room }) comes ∙ ap {A = Channel} (λ d. record d { room = now.room }) one-freed_alone
 
-  pub exit-step : step w (Exit proc) ≡ came (freed (after_exit c proc)) (exit_outcome (living (process_of c.users proc)))
+  pub exit-step : step w (Exit proc) ≡ came (freed (after_exit prio c proc)) (exit_outcome (living (process_of c.users proc)))
   exit-step = elim (option_cases (row_at c.users proc.user.0)) [
     | inl none ↦ nobody-ends none
     | inr ps ↦
@@ -241,7 +245,7 @@ module _ (config : Configuration) (c : Channel) (ks : List (Option Kept)) (hands
         ]
   ]
 
-  pub exit-sound : (room : ℕ) → IsSound config (record (freed (after_exit c proc)) { room = room }) ks hands
+  pub exit-sound : (room : ℕ) → IsSound config (record (freed (after_exit prio c proc)) { room = room }) ks hands
   exit-sound room =
-      sound-step config c ks hands sound (record (freed (after_exit c proc)) { room = room }) ks hands (Exit proc) (still-left (after_exit c proc) ks (still-exit c ks sound.users proc) held proc.user.0 room)
+      sound-step config c ks hands sound (record (freed (after_exit prio c proc)) { room = room }) ks hands (Exit proc) (still-left (after_exit prio c proc) ks (still-exit c ks sound.users prio proc) held proc.user.0 room)
       (sym (ap (λ after. after.world) exit-step))

@@ -5,7 +5,7 @@ use Rattle.std.specs.Prelude.{Option, Some, None, Result, Ok, Err, IsSome, ◌==
 use Rattle.std.proofs.lemmas.Bool.{cases_Bool, cases_eq, false≢true}
 use Rattle.std.proofs.lemmas.Bool.Decides.{nat_tests}
 use Rattle.std.proofs.lemmas.Option.{same_Some}
-use Rattle.qx_types.specs.Configuration.{Configuration}
+use Rattle.qx_types.specs.Configuration.{Configuration, limits_of}
 use Rattle.qx_base.specs.declared.errno.Errno.{Errno}
 use Rattle.qx_types.specs.declared.outcome.Answer.{Answer}
 use Rattle.qx_types.specs.declared.outcome.Outcome.{Outcome}
@@ -86,8 +86,8 @@ module _ (part : Part) (but : ℕ) where
   judged (Ok value) next then_like = then_like value
   judged (Err outcome) next then_like = record { like = λ number differs. refl }
 
-  answered : (thread : ℕ) (row : ThreadRow) (sent : Sent) (given : Result (Deed Resources) Errno) → ServesLike (Ok (served_by part (caller_of but thread row sent) sent given))
-  answered thread row sent given = record { like = like-answer part but thread sent.target.over given }
+  answered : (prio thread : ℕ) (row : ThreadRow) (sent : Sent) (given : Result (Deed Resources) Errno) → ServesLike (Ok (served_by prio part (caller_of but thread row sent) sent given))
+  answered prio thread row sent given = record { like = like-answer part but thread sent.target.over given }
 
   pulsed : (deed : Deed Resources) → ServesLike (Ok (answering part deed))
   pulsed deed = record { like = like-answering but part.processes part deed (λ number differs. refl) }
@@ -95,8 +95,8 @@ module _ (part : Part) (but : ℕ) where
   disconnected : (server : ServerName) (deed : Deed Resources) → ServesLike (Ok (answering (with_process but (without_server server) part) deed))
   disconnected server deed = record { like = like-answering but part.processes (with_process but (without_server server) part) deed (like-one but part.processes (without_server server)) }
 
-  message-like : (thread moment : ℕ) → ServesLike (serve_message part but thread moment)
-  message-like thread moment = search (judged, answered)
+  message-like : (prio thread moment : ℕ) → ServesLike (serve_message prio part but thread moment)
+  message-like prio thread moment = search (judged, answered)
 
   pulse-like : (thread call moment : ℕ) → ServesLike (serve_pulse part but thread call moment)
   pulse-like thread call moment = search (judged, pulsed)
@@ -106,7 +106,7 @@ module _ (part : Part) (but : ℕ) where
 
 pub served-like : (config : Configuration) (user : ℕ) (held : List OwnItem) (part : Part) (item : OwnItem) (moment : ℕ) → AreLike (process_of_item item) part.processes (serve config user held part item moment).part.processes
 unfolding serve
-served-like config user held part (Message process thread) moment = (message-like part process thread moment).like
+served-like config user held part (Message process thread) moment = (message-like part process (limits_of config user).disconnect thread moment).like
 served-like config user held part (Unblock process thread call) moment = (pulse-like part process thread call moment).like
 served-like config user held part (Disconnect process server) moment = (disconnect-like part process server moment).like
 
@@ -136,17 +136,18 @@ module _ (part : Part) where
   judged_living (Ok value) next then_lives = then_lives value
   judged_living (Err outcome) next then_lives = record { lives = refl }
 
-  answered_living : (caller : Caller) (sent : Sent) (given : Result (Deed Resources) Errno) → ServesLiving (Ok (served_by part caller sent given))
-  answered_living caller sent given = record { lives = lives-answered part caller.process caller.thread sent.target.over given }
+  answered_living : (prio : ℕ) (caller : Caller) (sent : Sent) (given : Result (Deed Resources) Errno) → ServesLiving (Ok (served_by prio part caller sent given))
+  answered_living prio caller sent given = record { lives = lives-answered part caller.process caller.thread sent.target.over given }
 
-  message-living : (process thread moment : ℕ) → ServesLiving (serve_message part process thread moment)
-  message-living process thread moment = search (judged_living, answered_living)
+  message-living : (prio process thread moment : ℕ) → ServesLiving (serve_message prio part process thread moment)
+  message-living prio process thread moment = search (judged_living, answered_living)
 
 pub served-lives : (config : Configuration) (user : ℕ) (held : List OwnItem) (part : Part) (process thread moment : ℕ) → IsSome (thread_of thread (row_at part.processes process))
     → has_ended_in (row_at (serve config user held part (Message process thread) moment).part.processes process) ≡ false
 unfolding serve
 served-lives config user held part process thread moment there =
-    alive (row_at (or_kept part (serve_message part process thread moment)).part.processes process) (ap (λ living. living process) (message-living part process thread moment).lives ∙ with_thread-lives (row_at part.processes process) thread there)
+    let prio = (limits_of config user).disconnect in
+    alive (row_at (or_kept part (serve_message prio part process thread moment)).part.processes process) (ap (λ living. living process) (message-living part prio process thread moment).lives ∙ with_thread-lives (row_at part.processes process) thread there)
 
 -- ---- what workers hold then
 

@@ -4,7 +4,7 @@ use Rattle.std.specs.Prelude.{◌||◌, Ok, option_map, slice_set}
 use Rattle.std.proofs.lemmas.Bool.{false≢true}
 use Rattle.std.proofs.lemmas.List.{get_or-set_other, set-set}
 use Rattle.std.proofs.lemmas.Option.{same_Some}
-use Rattle.qx_types.specs.Configuration.{Configuration}
+use Rattle.qx_types.specs.Configuration.{Configuration, limits_of}
 use Rattle.qx_types.specs.declared.names.Proc.{Proc}
 use Rattle.qx_types.specs.declared.names.Thread.{Thread}
 use Rattle.qx_types.specs.declared.step.Step.TheVariants.{Perform}
@@ -94,27 +94,27 @@ module _ (c d : Channel) (ks : List (Option Kept)) (of : AreResourcesOf c ks) (u
   still-serving = still-resources d ks user k l there serves.user (of-users c d ks of (same_users (part_in c k) serves.did) (ap length (mounts_after (part_in c k) serves.did)))
 
 -- by whatever resources the user has
-pub still-performing : (c d : Channel) (ks ls : List (Option Kept)) (of : AreResourcesOf c ks) (held : Held) (moment : ℕ) (config : Configuration) (k : Option Kept) → row_at ks held.user.0 ≡ k → PerformsFor c d ks ls held moment k → AreResourcesOf d ls
+pub still-performing : (c d : Channel) (ks ls : List (Option Kept)) (of : AreResourcesOf c ks) (held : Held) (moment : ℕ) (config : Configuration) (k : Option Kept) → row_at ks held.user.0 ≡ k → PerformsFor config c d ks ls held moment k → AreResourcesOf d ls
 still-performing c d ks ls of held moment config None there did = subst (λ ls. AreResourcesOf d ls) (sym did.1) (subst (λ d. AreResourcesOf d ks) (sym did.0) of)
 still-performing c d ks ls of held moment config (Some k) there did =
-    subst (λ ls. AreResourcesOf d ls) (sym did.1.0) (still-serving c d ks of held.user.0 k did.0 there _ (did.1.1 config []))
+    subst (λ ls. AreResourcesOf d ls) (sym did.1.0) (still-serving c d ks of held.user.0 k did.0 there _ (did.1.1 []))
 
 -- ---- what is done, by the item
 
-pub performs-message : (c d : Channel) (k l : Kept) (held : Held) (process tid moment : ℕ) (thread : Thread) → held.item ≡ item.Message process tid → thread ≡ named_thread held.user.0 process tid
-    → Serves c d k l (λ part. settled part (or_kept part (serve_message part thread.proc.num thread.tid moment))) → Performs c d k l held moment
+pub performs-message : (config : Configuration) (c d : Channel) (k l : Kept) (held : Held) (process tid moment : ℕ) (thread : Thread) → held.item ≡ item.Message process tid → thread ≡ named_thread held.user.0 process tid
+    → Serves c d k l (λ part. settled part (or_kept part (serve_message (limits_of config thread.proc.user.0).disconnect part thread.proc.num thread.tid moment))) → Performs config c d k l held moment
 unfolding serve
-performs-message c d k l held process tid moment thread is named serves config items = rw is (rw named at serves)
+performs-message config c d k l held process tid moment thread is named serves items = rw is (rw named at serves)
 
-pub performs-pulse : (c d : Channel) (k l : Kept) (held : Held) (process tid call moment : ℕ) (thread : Thread) → held.item ≡ item.Unblock process tid call → thread ≡ named_thread held.user.0 process tid
-    → Serves c d k l (λ part. settled part (or_kept part (serve_pulse part thread.proc.num thread.tid call moment))) → Performs c d k l held moment
+pub performs-pulse : (config : Configuration) (c d : Channel) (k l : Kept) (held : Held) (process tid call moment : ℕ) (thread : Thread) → held.item ≡ item.Unblock process tid call → thread ≡ named_thread held.user.0 process tid
+    → Serves c d k l (λ part. settled part (or_kept part (serve_pulse part thread.proc.num thread.tid call moment))) → Performs config c d k l held moment
 unfolding serve
-performs-pulse c d k l held process tid call moment thread is named serves config items = rw is (rw named at serves)
+performs-pulse config c d k l held process tid call moment thread is named serves items = rw is (rw named at serves)
 
-pub performs-disconnect : (c d : Channel) (k l : Kept) (held : Held) (process moment : ℕ) (server : ServerName) (proc : Proc) → held.item ≡ item.Disconnect process server → proc ≡ record { user = held.user; num = process }
-    → Serves c d k l (λ part. settled part (or_kept part (serve_disconnect part (record { process = proc.num; server = server }) moment))) → Performs c d k l held moment
+pub performs-disconnect : (config : Configuration) (c d : Channel) (k l : Kept) (held : Held) (process moment : ℕ) (server : ServerName) (proc : Proc) → held.item ≡ item.Disconnect process server → proc ≡ record { user = held.user; num = process }
+    → Serves c d k l (λ part. settled part (or_kept part (serve_disconnect part (record { process = proc.num; server = server }) moment))) → Performs config c d k l held moment
 unfolding serve
-performs-disconnect c d k l held process moment server proc is named serves config items = rw is (rw named at serves)
+performs-disconnect config c d k l held process moment server proc is named serves items = rw is (rw named at serves)
 
 -- a process lives still whose message it was
 lives-by : (config : Configuration) (user : ℕ) (items : List OwnItem) (part : Part) (own : OwnItem) (moment : ℕ) (users : Users) → row_at users user ≡ Some part.processes → IsThereBy users user own
@@ -143,7 +143,7 @@ module _ (config : Configuration) (c : Channel) (ks : List (Option Kept)) (hands
   abbrev pub owner_then : Proc
   owner_then = record { user = held.user; num = process_of_item held.item }
 
-  module _ (ps : List (Option Process)) (o : Owner config c ks hands sound user ps) (d : Channel) (l : Kept) (performs : Performs c d o.k l held moment) where
+  module _ (ps : List (Option Process)) (o : Owner config c ks hands sound user ps) (d : Channel) (l : Kept) (performs : Performs config c d o.k l held moment) where
     abbrev part : Part
     part = record { processes = ps; resources = told o.k (lists c) }
 
@@ -154,7 +154,7 @@ module _ (config : Configuration) (c : Channel) (ks : List (Option Kept)) (hands
     serving part = settled part (serve config user items part held.item moment)
 
     serves : Serves c d o.k l serving
-    serves = performs config items
+    serves = performs items
 
     its : part_in c o.k ≡ Some part
     its = ap (λ number. option_map (beside (told o.k (lists c))) (row_at c.users number)) o.own ∙ ap (option_map (beside (told o.k (lists c)))) o.users
@@ -209,7 +209,7 @@ module _ (config : Configuration) (c : Channel) (ks : List (Option Kept)) (hands
       ap (λ (d : Channel). told_world config d (told_all c ks) (slice_set hands worker None)) (nobody_left c items user none)
       ∙ sym (ap (performed_part (with_empty_hand w worker) held moment) (nobody config c ks hands sound user none))
 
-  pub performed : (d : Channel) (ls : List (Option Kept)) (k : Option Kept) → row_at ks user ≡ k → PerformsFor c d ks ls held moment k
+  pub performed : (d : Channel) (ls : List (Option Kept)) (k : Option Kept) → row_at ks user ≡ k → PerformsFor config c d ks ls held moment k
       → world_of config (freed d) ls (slice_set hands worker None) ≡ performed_part (with_empty_hand w worker) held moment (row_at w.parts user)
   performed d ls None there did = elim (option_cases (row_at c.users user)) [
     | inl none ↦ (λ i. world_of config (freed (did.0 i)) (did.1 i) (slice_set hands worker None)) ∙ performed-nobody none
@@ -220,10 +220,10 @@ module _ (config : Configuration) (c : Channel) (ks : List (Option Kept)) (hands
     | inr ps ↦
         let o = owner config c ks hands sound user ps.0 ps.1 in
         let same : k ≡ o.k = same_Some k o.k (sym there ∙ o.kept) in
-        ap (λ ls. world_of config (freed d) ls (slice_set hands worker None)) did.1.0 ∙ performed-one ps.0 o d did.0 (subst (λ k. Performs c d k did.0 held moment) same did.1.1)
+        ap (λ ls. world_of config (freed d) ls (slice_set hands worker None)) did.1.0 ∙ performed-one ps.0 o d did.0 (subst (λ k. Performs config c d k did.0 held moment) same did.1.1)
   ]
 
-  freed-alone : (d : Channel) (ls : List (Option Kept)) (k : Option Kept) → row_at hands worker ≡ Some held → row_at ks user ≡ k → PerformsFor c d ks ls held moment k → with_one_left d items owner_then ≡ freed d
+  freed-alone : (d : Channel) (ls : List (Option Kept)) (k : Option Kept) → row_at hands worker ≡ Some held → row_at ks user ≡ k → PerformsFor config c d ks ls held moment k → with_one_left d items owner_then ≡ freed d
   freed-alone d ls None holds there did = elim (option_cases (row_at c.users user)) [
     | inl none ↦ subst (λ (e : Channel). with_one_left e items owner_then ≡ freed e) (sym did.0) (nobody-left c items owner_then none ∙ sym (nobody_left c items user none))
     | inr ps ↦ absurd (false≢true (sym (ap is_some there) ∙ (sym (sound.users.same user) ∙ ap is_some ps.1)))
@@ -233,11 +233,11 @@ module _ (config : Configuration) (c : Channel) (ks : List (Option Kept)) (hands
     | inr ps ↦
         let o = owner config c ks hands sound user ps.0 ps.1 in
         let same : k ≡ o.k = same_Some k o.k (sym there ∙ o.kept) in
-        one-alone ps.0 o d did.0 (subst (λ k. Performs c d k did.0 held moment) same did.1.1) holds
+        one-alone ps.0 o d did.0 (subst (λ k. Performs config c d k did.0 held moment) same did.1.1) holds
   ]
 
   -- the process lives still whose message was served
-  pub performed-lives : (d : Channel) (ls : List (Option Kept)) (k : Option Kept) → row_at ks user ≡ k → PerformsFor c d ks ls held moment k → IsThere c.users held → has_ended_in (process_of d.users owner_then) ≡ false
+  pub performed-lives : (d : Channel) (ls : List (Option Kept)) (k : Option Kept) → row_at ks user ≡ k → PerformsFor config c d ks ls held moment k → IsThere c.users held → has_ended_in (process_of d.users owner_then) ≡ false
   performed-lives d ls None there did thread = elim (option_cases (row_at c.users user)) [
     | inl none ↦ ap (λ processes. has_ended_in (process_of_user owner_then.num processes)) (ap (λ (e : Channel). row_at e.users user) did.0 ∙ none)
     | inr ps ↦ absurd (false≢true (sym (ap is_some there) ∙ (sym (sound.users.same user) ∙ ap is_some ps.1)))
@@ -247,17 +247,17 @@ module _ (config : Configuration) (c : Channel) (ks : List (Option Kept)) (hands
     | inr ps ↦
         let o = owner config c ks hands sound user ps.0 ps.1 in
         let same : k ≡ o.k = same_Some k o.k (sym there ∙ o.kept) in
-        let performs = subst (λ k. Performs c d k did.0 held moment) same did.1.1 in
+        let performs = subst (λ k. Performs config c d k did.0 held moment) same did.1.1 in
         ap (λ processes. has_ended_in (process_of_user owner_then.num processes)) (row-then ps.0 o d did.0 performs)
         ∙ lives-by config user items (part ps.0 o d did.0 performs) held.item moment c.users ps.1 thread
   ]
 
   -- once the process is freed whose item it was, if nothing is left of it, all are that can be
-  pub perform-freed : (d : Channel) (ls : List (Option Kept)) (k : Option Kept) → row_at hands worker ≡ Some held → row_at ks user ≡ k → PerformsFor c d ks ls held moment k
+  pub perform-freed : (d : Channel) (ls : List (Option Kept)) (k : Option Kept) → row_at hands worker ≡ Some held → row_at ks user ≡ k → PerformsFor config c d ks ls held moment k
       → (now : Channel) → now ≡ record (with_one_left d items owner_then) { room = now.room } → now ≡ record (freed d) { room = now.room }
   perform-freed d ls k holds there did now is = is ∙ ap {A = Channel} (λ e. record e { room = now.room }) (freed-alone d ls k holds there did)
 
-  pub performed-sound : (d : Channel) (ls : List (Option Kept)) (k : Option Kept) → item_to_do w worker ≡ Ok held → row_at ks user ≡ k → PerformsFor c d ks ls held moment k
+  pub performed-sound : (d : Channel) (ls : List (Option Kept)) (k : Option Kept) → item_to_do w worker ≡ Ok held → row_at ks user ≡ k → PerformsFor config c d ks ls held moment k
       → (room : ℕ) → IsSound config (record (freed d) { room = room }) ls (slice_set hands worker None)
   performed-sound d ls k holds there did room =
       sound-step config c ks hands sound (record (freed d) { room = room }) ls (slice_set hands worker None) (Perform (record { 0 = worker }) moment)

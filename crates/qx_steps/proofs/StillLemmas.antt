@@ -71,12 +71,12 @@ module _ (c : Channel) (ks : List (Option Kept)) (of : AreResourcesOf c ks) wher
   still-receive manager = of-users c (after_receive c manager) ks of (taken (slice_get (channel_line c manager) 0)) refl
 
   -- a process ends
-  ended_by : (proc : Proc) (process : Option Process) → AreResourcesOf (ended_in c proc process) ks
-  ended_by proc None = of
-  ended_by proc (Some process) = of-users c (ended_in c proc (Some process)) ks of (one proc.user.0 (λ processes. with_row processes proc.num ended)) refl
+  ended_by : (prio : ℕ) (proc : Proc) (process : Option Process) → AreResourcesOf (ended_in prio c proc process) ks
+  ended_by prio proc None = of
+  ended_by prio proc (Some process) = of-users c (ended_in prio c proc (Some process)) ks of (one proc.user.0 (λ processes. with_row processes proc.num ended)) refl
 
-  pub still-exit : (proc : Proc) → AreResourcesOf (after_exit c proc) ks
-  still-exit proc = ended_by proc (living (process_of c.users proc))
+  pub still-exit : (prio : ℕ) (proc : Proc) → AreResourcesOf (after_exit prio c proc) ks
+  still-exit prio proc = ended_by prio proc (living (process_of c.users proc))
 
   -- processes that have ended are freed
   pub still-left : (held : List OwnItem) (user room : ℕ) → AreResourcesOf (record (with_left c held user) { room = room }) ks
@@ -91,16 +91,16 @@ module _ (c : Channel) (ks : List (Option Kept)) (of : AreResourcesOf c ks) wher
   pub still-asking : (thread : Thread) → Still c (after_asking c thread) ks
   still-asking thread = asked_by thread (unasked_call (thread_row c.users thread))
 
-  withdrawn_by : (thread : Thread) (call : Option Call) → Still c (withdrawn c thread call) ks
-  withdrawn_by thread None = record { of = of; waits = refl }
-  withdrawn_by thread (Some call) = record { of = of-users c (withdrawn c thread (Some call)) ks of (one thread.proc.user.0 (λ processes. with_row processes thread.proc.num (failed thread.tid EINTR call.target.over))) refl; waits = refl }
+  withdrawn_by : (prio : ℕ) (thread : Thread) (call : Option Call) → Still c (withdrawn prio c thread call) ks
+  withdrawn_by prio thread None = record { of = of; waits = refl }
+  withdrawn_by prio thread (Some call) = record { of = of-users c (withdrawn prio c thread (Some call)) ks of (one thread.proc.user.0 (λ processes. with_row processes thread.proc.num (failed thread.tid EINTR call.target.over))) refl; waits = refl }
 
-  pub still-withdrawing : (thread : Thread) → Still c (after_withdrawing c thread) ks
-  still-withdrawing thread = withdrawn_by thread (queued_call (thread_row c.users thread))
+  pub still-withdrawing : (prio : ℕ) (thread : Thread) → Still c (after_withdrawing prio c thread) ks
+  still-withdrawing prio thread = withdrawn_by prio thread (queued_call (thread_row c.users thread))
 
-  pub still-interrupting : (thread : Thread) → Still c (after_interrupt c thread) ks
-  still-interrupting thread = elim (cases_Bool (is_some (queued_call (thread_row c.users thread)))) [
-    | inl queued ↦ rw queued (still-withdrawing thread)
+  pub still-interrupting : (prio : ℕ) (thread : Thread) → Still c (after_interrupt prio c thread) ks
+  still-interrupting prio thread = elim (cases_Bool (is_some (queued_call (thread_row c.users thread)))) [
+    | inl queued ↦ rw queued (still-withdrawing prio thread)
     | inr unqueued ↦ rw unqueued (still-asking thread)
   ]
 

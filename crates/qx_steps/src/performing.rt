@@ -19,7 +19,7 @@ use qx_chan::Channel;
 use qx_machine::{Held, OwnItem};
 use qx_resources::AllResources;
 use qx_rows::Reply;
-use qx_types::{Proc, Thread, User};
+use qx_types::{Config, Proc, Thread, User};
 use qx_wire::Parsed;
 use std::alloc::AllocError;
 
@@ -28,6 +28,7 @@ use std::alloc::AllocError;
 #[inline(always)]
 pub(crate) fn perform(
     channel: &mut Channel,
+    config: &Config,
     resources: &mut AllResources,
     held: Held,
     read: Option<&Parsed>,
@@ -37,7 +38,7 @@ pub(crate) fn perform(
 ) -> Result<bool, AllocError>
     requires users { AreResourcesOf channel.old resources.old }
     requires read { IsReadOf (option_copied read) (taken_item channel.old.users held) }
-    ensures ok { OnOk result (PerformsFor channel.old channel.new resources.old resources.new held moment (row_at resources.old held.user.0)) }
+    ensures ok { OnOk result (PerformsFor config.now channel.old channel.new resources.old resources.new held moment (row_at resources.old held.user.0)) }
     ensures there { IfOk result (λ may_have_ended. IsFalse may_have_ended → IsThere channel.old.users held) }
     ensures err { OnErr result ((channel.new ≡ channel.old) × (resources.new ≡ resources.old)) }
     ensures sure { IsFalse (item_wants_memory (row_at (parts_of channel.old.users (told_all channel.old resources.old)) held.user.0) held.item moment) → IsOk result }
@@ -48,7 +49,7 @@ pub(crate) fn perform(
     Ok(match held.item {
         OwnItem::Message { process, thread } => {
             let thread = named_thread(held.user, process, thread);
-            !channel.serve(resources, thread, read, moment, reply, memory)?
+            !channel.serve(config, resources, thread, read, moment, reply, memory)?
         }
         OwnItem::Unblock {
             process,

@@ -150,7 +150,7 @@ impl World {
         ensures outcome { result ≡ (machine.step self.old (Step.Exit proc)).outcome }
         ensures world { self.new ≡ (machine.step self.old (Step.Exit proc)).world }
     {
-        let outcome = self.channel.exit(self.alloc, proc);
+        let outcome = self.channel.exit(self.alloc, &self.config, proc);
         free_one(&mut self.channel, self.hands.as_slice(), proc);
         outcome
     }
@@ -203,7 +203,7 @@ impl World {
         ensures outcome { result ≡ (machine.step self.old (Step.Interrupt thread)).outcome }
         ensures world { self.new ≡ (machine.step self.old (Step.Interrupt thread)).world }
     {
-        self.channel.interrupt(thread)
+        self.channel.interrupt(&self.config, thread)
     }
 
     /// A client's request goes as a message into its manager's line, and the thread is blocked (C Library Reference:
@@ -423,6 +423,7 @@ impl World {
     {
         let may_have_ended = perform(
             &mut self.channel,
+            &self.config,
             &mut self.resources,
             held,
             read,

@@ -4,9 +4,11 @@ use Rattle.qx_types.specs.declared.limits.TheConstants.Limits as most
 use Rattle.qx_types.specs.declared.user_limits.LimitName.{LimitName}
 use Rattle.qx_types.specs.declared.user_limits.LimitName.TheVariants.{Processes, Connections, Servers, Blocks, Inodes, File, Bytes, Mounts, Events}
 
--- how many of each there may be of one user, and the ceiling: the greatest priority that the user may give a thread
+-- how many of each there may be of one user, the ceiling, which is the greatest priority that the user may give a thread, and the
+-- priority of the user's disconnect pulses
 pub record UserLimits : Type 0 where
   pub ceiling : ℕ
+  pub disconnect : ℕ
   pub processes : ℕ
   pub connections : ℕ
   pub servers : ℕ
@@ -45,6 +47,7 @@ limit_in Events limits = limits.events
 abbrev pub default_limits : UserLimits
 default_limits = record {
   ceiling = most.CEILING;
+  disconnect = most.PRIORITY;
   processes = most.PROCESSES;
   connections = most.CONNECTIONS;
   servers = most.SERVERS;
@@ -76,6 +79,7 @@ or_most most n = if nat_le 1 n && nat_le n most then n else most
 abbrev pub in_ranges : UserLimits → UserLimits
 in_ranges limits = record {
   ceiling = or_most most.PRIORITY limits.ceiling;
+  disconnect = or_most most.PRIORITY limits.disconnect;
   processes = or_most most.PROCESSES limits.processes;
   connections = or_most most.CONNECTIONS limits.connections;
   servers = or_most most.SERVERS limits.servers;
@@ -93,6 +97,7 @@ IsWithin most n = (1 ≤ n) × (n ≤ most)
 -- each limit is in its range
 pub record AreLimits (limits : UserLimits) : Type 0 where
   pub ceiling : IsWithin most.PRIORITY limits.ceiling
+  pub disconnect : IsWithin most.PRIORITY limits.disconnect
   pub processes : IsWithin most.PROCESSES limits.processes
   pub connections : IsWithin most.CONNECTIONS limits.connections
   pub servers : IsWithin most.SERVERS limits.servers

@@ -58,7 +58,7 @@ impl Clone for Config {
 
 impl Config {
     /// A configuration, exactly where the names and numbers are within the limits and no two names are equal. Each user has
-    /// the default of each limit, and the ceiling 63.
+    /// the default of each limit, the ceiling 63, and disconnect pulses of priority 255.
     pub fn new(names: Vec<Bytes>, workers: u8) -> Option<Config>
         ensures valid { IsSome result ↔ IsConfiguration names.items workers }
         ensures value { IfSome result (λ c. c ≡ record { users = names.items; workers = workers; limits = replicate (length names.items) default_limits }) }
@@ -94,6 +94,22 @@ impl Config {
         Ok(())
     }
 
+    /// Sets the priority of a user's disconnect pulses, from 1 to 255 (this profile). The last call for a user holds.
+    /// `OutOfRange` for a user who is not there, and for 0.
+    pub fn set_disconnect_prio(&mut self, user: User, prio: Prio) -> Result<(), OutOfRange>
+        ensures variant { IsOk result ↔ ((1 ≤ user.0) × (user.0 ≤ length self.old.users) × (1 ≤ prio.0)) }
+        ensures ok { OnOk result (self.new ≡ with_limits self.old user.0 (record (limits_of self.old user.0) { disconnect = prio.0 })) }
+        ensures err { OnErr result (self.new ≡ self.old) }
+    {
+        if !self.has(user) || prio.0 == 0 {
+            return Err(OutOfRange);
+        }
+        let mut limits = self.limits(user);
+        limits.set_disconnect_prio(prio);
+        self.put_limits(user, limits);
+        Ok(())
+    }
+
     /// Sets one limit of a user, from 1 to its default (this profile). The last call for a user and a limit holds.
     /// `OutOfRange` for a user who is not there, for 0, and for more than the default.
     pub fn set_limit(&mut self, user: User, name: LimitName, n: usize) -> Result<(), OutOfRange>
@@ -118,6 +134,16 @@ impl Config {
         let limits = self.limits_at(user).unwrap_or_default();
         limits.know();
         limits
+    }
+
+    /// The priority of a user's disconnect pulses.
+    pub fn disconnect_prio(&self, user: User) -> Prio
+        ensures prio { result.0 ≡ (limits_of self.now user.0).disconnect }
+        ensures lowest { 1 ≤ result.0 }
+    {
+        let limits = self.limits(user);
+        limits.know();
+        limits.disconnect_prio()
     }
 
     /// The limits that stand under a user's number.

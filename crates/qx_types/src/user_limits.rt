@@ -47,11 +47,12 @@ impl LimitName {
     }
 }
 
-/// What one user may hold, and the ceiling: the greatest priority that the user may give a thread. Each is at least 1; a limit
-/// is at most its default.
+/// What one user may hold, the ceiling, which is the greatest priority that the user may give a thread, and the priority of the
+/// user's disconnect pulses. Each is at least 1; a limit is at most its default.
 #[derive(Clone, Copy, Debug)]
 pub struct UserLimits {
     ceiling: u8,
+    disconnect: u8,
     processes: u32,
     connections: u32,
     servers: u32,
@@ -68,11 +69,11 @@ impl Model for UserLimits {
 
     ghost Value = { limits.UserLimits };
 
-    ghost view = { λ l. record { ceiling = l.ceiling; processes = l.processes; connections = l.connections; servers = l.servers; blocks = l.blocks; inodes = l.inodes; file = l.file; bytes = l.bytes; mounts = l.mounts; events = l.events } };
+    ghost view = { λ l. record { ceiling = l.ceiling; disconnect = l.disconnect; processes = l.processes; connections = l.connections; servers = l.servers; blocks = l.blocks; inodes = l.inodes; file = l.file; bytes = l.bytes; mounts = l.mounts; events = l.events } };
 
-    ghost inverse = { λ l. record { ceiling = l.ceiling; processes = l.processes; connections = l.connections; servers = l.servers; blocks = l.blocks; inodes = l.inodes; file = l.file; bytes = l.bytes; mounts = l.mounts; events = l.events } };
+    ghost inverse = { λ l. record { ceiling = l.ceiling; disconnect = l.disconnect; processes = l.processes; connections = l.connections; servers = l.servers; blocks = l.blocks; inodes = l.inodes; file = l.file; bytes = l.bytes; mounts = l.mounts; events = l.events } };
 
-    ghost invariant = { λ l. limits.AreLimits (record { ceiling = l.ceiling; processes = l.processes; connections = l.connections; servers = l.servers; blocks = l.blocks; inodes = l.inodes; file = l.file; bytes = l.bytes; mounts = l.mounts; events = l.events }) };
+    ghost invariant = { λ l. limits.AreLimits (record { ceiling = l.ceiling; disconnect = l.disconnect; processes = l.processes; connections = l.connections; servers = l.servers; blocks = l.blocks; inodes = l.inodes; file = l.file; bytes = l.bytes; mounts = l.mounts; events = l.events }) };
 }
 
 /// Those of a user for whom none is set.
@@ -82,6 +83,7 @@ impl Default for UserLimits {
     fn default() -> UserLimits {
         UserLimits {
             ceiling: Limits::CEILING,
+            disconnect: Limits::PRIORITY,
             processes: Limits::PROCESSES as u32,
             connections: Limits::CONNECTIONS as u32,
             servers: Limits::SERVERS as u32,
@@ -101,6 +103,13 @@ impl UserLimits {
         ensures ceiling { result.0 ≡ self.now.ceiling }
     {
         Prio(self.ceiling)
+    }
+
+    /// The priority of the disconnect pulses.
+    pub fn disconnect_prio(&self) -> Prio
+        ensures disconnect { result.0 ≡ self.now.disconnect }
+    {
+        Prio(self.disconnect)
     }
 
     /// One of the limits.
@@ -128,6 +137,14 @@ impl UserLimits {
         ensures set { self.new ≡ record self.old { ceiling = prio.0 } }
     {
         self.ceiling = prio.0;
+    }
+
+    /// Sets the priority of the disconnect pulses.
+    pub(crate) fn set_disconnect_prio(&mut self, prio: Prio)
+        requires some { 1 ≤ prio.0 }
+        ensures set { self.new ≡ record self.old { disconnect = prio.0 } }
+    {
+        self.disconnect = prio.0;
     }
 
     /// Sets one of the limits.

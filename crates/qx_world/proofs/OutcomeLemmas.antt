@@ -80,11 +80,11 @@ answer_taken (answer.Failed error) = refl
 abbrev plain : Outcome → Bool
 plain outcome = not (is_reply outcome)
 
-interrupt_gives : (part : Part) (thread : Thread) (call : ℕ) (state : State) → Gives plain (Ok (interrupt_in part thread call state))
-interrupt_gives part thread call (Queued sent) = record { gives = λ _. refl }
-interrupt_gives part thread call (Taken sent) = cond_both {A = ClientStep} sent.is_asked _ _ (λ given. Gives plain (Ok given)) (λ asked. record { gives = λ _. refl }) (λ unasked. record { gives = λ _. refl })
-interrupt_gives part thread call (Waiting sent) = cond_both {A = ClientStep} sent.is_asked _ _ (λ given. Gives plain (Ok given)) (λ asked. record { gives = λ _. refl }) (λ unasked. record { gives = λ _. refl })
-interrupt_gives part thread call _ = record { gives = λ _. refl }
+interrupt_gives : (prio : ℕ) (part : Part) (thread : Thread) (call : ℕ) (state : State) → Gives plain (Ok (interrupt_in prio part thread call state))
+interrupt_gives prio part thread call (Queued sent) = record { gives = λ _. refl }
+interrupt_gives prio part thread call (Taken sent) = cond_both {A = ClientStep} sent.is_asked _ _ (λ given. Gives plain (Ok given)) (λ asked. record { gives = λ _. refl }) (λ unasked. record { gives = λ _. refl })
+interrupt_gives prio part thread call (Waiting sent) = cond_both {A = ClientStep} sent.is_asked _ _ (λ given. Gives plain (Ok given)) (λ asked. record { gives = λ _. refl }) (λ unasked. record { gives = λ _. refl })
+interrupt_gives prio part thread call _ = record { gives = λ _. refl }
 
 pulse_gives : (part : Part) (process : ℕ) (first : Option Pulse) → Gives may_be_pulse (Ok (pulse_taken part process first))
 pulse_gives part process None = record { gives = λ _. refl }

@@ -33,7 +33,7 @@ fn take_and_give_back(queues: &mut Queues, proc: Proc) -> Result<(), AllocError>
         manager: Manager::Ram,
         number: 1,
     };
-    queues.disconnect(proc, server);
+    queues.disconnect(proc, server, Prio(20));
     queues.receive(Manager::Ram);
     Ok(())
 }

@@ -25,15 +25,15 @@ abbrev pub answered_process : ℕ → Over → List ℕ → Result Done Errno �
 answered_process thread over bytes (Ok done) = after_serving thread over (reply_with bytes done)
 answered_process thread over bytes (Err error) = failed thread error over
 
--- its call has no unblock pulse any more, and the disconnect pulse of what its process has lost by that stands in its line
-abbrev pub without_pulse : Shared → Process → Process → Thread → Call → Shared
-without_pulse queues before after thread call =
-    with_lost thread.proc (lost_servers before after) (with_shared_line queues (manager_number call.target.manager) (line_without thread.proc.user.0 (item.Unblock thread.proc.num thread.tid call.number)))
+-- its call has no unblock pulse any more, and the disconnect pulse of what its process has lost by that, of this priority, stands in its line
+abbrev pub without_pulse : ℕ → Shared → Process → Process → Thread → Call → Shared
+without_pulse prio queues before after thread call =
+    with_lost prio thread.proc (lost_servers before after) (with_shared_line queues (manager_number call.target.manager) (line_without thread.proc.user.0 (item.Unblock thread.proc.num thread.tid call.number)))
 
-abbrev pub answered_queues : Shared → Process → Process → Thread → Call → Result Done Errno → Shared
-answered_queues queues before after thread call (Ok NoReply) = queues
-answered_queues queues before after thread call (Ok (Reply status effect)) = without_pulse queues before after thread call
-answered_queues queues before after thread call (Err error) = without_pulse queues before after thread call
+abbrev pub answered_queues : ℕ → Shared → Process → Process → Thread → Call → Result Done Errno → Shared
+answered_queues prio queues before after thread call (Ok NoReply) = queues
+answered_queues prio queues before after thread call (Ok (Reply status effect)) = without_pulse prio queues before after thread call
+answered_queues prio queues before after thread call (Err error) = without_pulse prio queues before after thread call
 
 -- each thread whose call waited has its answer
 abbrev pub given_users : Users → List UsersAnswer → Users

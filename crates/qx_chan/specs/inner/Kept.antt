@@ -104,10 +104,10 @@ pub record Answering (processes : Users) (queues : Shared) : Type 0 where
   pub kept : StandTogether processes (record queues { answered = [] })
   pub answered : AllByRecursion (IsAwaited processes) queues.answered
 
--- the disconnect pulses of a process that has lost these server connections stand in their managers' lines
-abbrev pub with_lost : Proc → List ServerName → Shared → Shared
-with_lost proc [] queues = queues
-with_lost proc (server ∷ servers) queues = with_lost proc servers (with_shared_disconnect queues proc server)
+-- the disconnect pulses of a process that has lost these server connections stand in their managers' lines, with this priority
+abbrev pub with_lost : ℕ → Proc → List ServerName → Shared → Shared
+with_lost prio proc [] queues = queues
+with_lost prio proc (server ∷ servers) queues = with_lost prio proc servers (with_shared_disconnect queues proc server prio)
 
 -- the disconnect node of a process once its call has attached what the message goes over
 abbrev pub with_attached : Proc → Option Process → Target → Shared → Shared

@@ -14,13 +14,13 @@ use Rattle.qx_chan.specs.Serving.{Serves, settled}
 -- ---- an item is done
 
 -- by the resources of its user
-abbrev pub Performs : Channel → Channel → Kept → Kept → Held → ℕ → Type 0
-Performs c d k l held moment = (config : Configuration) (items : List OwnItem) → Serves c d k l (λ part. settled part (serve config held.user.0 items part held.item moment))
+abbrev pub Performs : Configuration → Channel → Channel → Kept → Kept → Held → ℕ → Type 0
+Performs config c d k l held moment = (items : List OwnItem) → Serves c d k l (λ part. settled part (serve config held.user.0 items part held.item moment))
 
 -- where the user has resources
-abbrev pub PerformsFor : Channel → Channel → List (Option Kept) → List (Option Kept) → Held → ℕ → Option Kept → Type 0
-PerformsFor c d ks ls held moment None = (d ≡ c) × (ls ≡ ks)
-PerformsFor c d ks ls held moment (Some k) = (l : Kept) × ((ls ≡ slice_set ks held.user.0 (Some l)) × Performs c d k l held moment)
+abbrev pub PerformsFor : Configuration → Channel → Channel → List (Option Kept) → List (Option Kept) → Held → ℕ → Option Kept → Type 0
+PerformsFor config c d ks ls held moment None = (d ≡ c) × (ls ≡ ks)
+PerformsFor config c d ks ls held moment (Some k) = (l : Kept) × ((ls ≡ slice_set ks held.user.0 (Some l)) × Performs config c d k l held moment)
 
 -- ---- processes that have ended are freed
 

@@ -17,12 +17,12 @@ returns-in_err-serve-in-Message-clause-sure c = λ no.
 
 pub returns-in_ok-serve-in-Message-clause-ok : goal.returns-in_ok-serve-in-Message-clause-ok
 returns-in_ok-serve-in-Message-clause-ok c =
-    rw (← c.in-Some.ensures.row) (c.serve.new.resources, (refl, performs-message c.args.channel.now c.serve.new.self c.in-Some.resources.now c.serve.new.resources c.args.held c.in-Message.process c.in-Message.thread c.args.moment c.named_thread-thread.result c.in-Message.is c.named_thread-thread.ensures c.in_ok-serve-in-Message.ensures.ok))
+    rw (← c.in-Some.ensures.row) (c.serve.new.resources, (refl, performs-message c.args.config.now c.args.channel.now c.serve.new.self c.in-Some.resources.now c.serve.new.resources c.args.held c.in-Message.process c.in-Message.thread c.args.moment c.named_thread-thread.result c.in-Message.is c.named_thread-thread.ensures c.in_ok-serve-in-Message.ensures.ok))
 
 pub returns-in-Unblock-clause-ok : goal.returns-in-Unblock-clause-ok
 returns-in-Unblock-clause-ok c =
-    rw (← c.in-Some.ensures.row) (c.cancel.new.resources, (refl, performs-pulse c.args.channel.now c.cancel.new.self c.in-Some.resources.now c.cancel.new.resources c.args.held c.in-Unblock.process c.in-Unblock.thread c.in-Unblock.call c.args.moment c.named_thread-thread-in-Unblock.result c.in-Unblock.is c.named_thread-thread-in-Unblock.ensures c.cancel.ensures.cancelled))
+    rw (← c.in-Some.ensures.row) (c.cancel.new.resources, (refl, performs-pulse c.args.config.now c.args.channel.now c.cancel.new.self c.in-Some.resources.now c.cancel.new.resources c.args.held c.in-Unblock.process c.in-Unblock.thread c.in-Unblock.call c.args.moment c.named_thread-thread-in-Unblock.result c.in-Unblock.is c.named_thread-thread-in-Unblock.ensures c.cancel.ensures.cancelled))
 
 pub returns-in-Disconnect-clause-ok : goal.returns-in-Disconnect-clause-ok
 returns-in-Disconnect-clause-ok c =
-    rw (← c.in-Some.ensures.row) (c.disconnect.new.resources, (refl, performs-disconnect c.args.channel.now c.disconnect.new.self c.in-Some.resources.now c.disconnect.new.resources c.args.held c.in-Disconnect.process c.args.moment c.in-Disconnect.server c.named_process-proc.result c.in-Disconnect.is c.named_process-proc.ensures c.disconnect.ensures.disconnected))
+    rw (← c.in-Some.ensures.row) (c.disconnect.new.resources, (refl, performs-disconnect c.args.config.now c.args.channel.now c.disconnect.new.self c.in-Some.resources.now c.disconnect.new.resources c.args.held c.in-Disconnect.process c.args.moment c.in-Disconnect.server c.named_process-proc.result c.in-Disconnect.is c.named_process-proc.ensures c.disconnect.ensures.disconnected))

@@ -1,5 +1,6 @@
 use Rattle.std.proofs.Common.{◌≡◌, None, refl, ◌∙◌, rules, sym}
 use Rattle.std.proofs.lemmas.Bool.{false≢true}
+use Rattle.qx_types.specs.Configuration.{limits_of}
 use Rattle.qx_machine.specs.Performing.{dup_of}
 use Rattle.qx_chan.specs.inner.Calls.{taken_call}
 use Rattle.qx_chan.specs.Users.{thread_row}
@@ -15,19 +16,19 @@ pub returns-in_default-process_mut-clause-ok : goal.returns-in_default-process_m
 returns-in_default-process_mut-clause-ok c =
     let none : taken_call (thread_row c.self.inside.users c.args.thread) ≡ None = rw (← c.in-Some.ensures.row, ← c.in_default-process_mut.ensures.row) refl in
     rw (c.nothing-in_default-process_mut.ensures, ← c.self.view_is, set-row c.self.inside.users c.args.thread.proc.user.0 c.in-Some.processes.now (sym c.in-Some.ensures.row))
-    (Serves-untaken c.args.thread c.args.moment c.self.inside.users c.self.inside.tables c.args.resources.now c.requires.user none)
+    (Serves-untaken (limits_of c.args.config.now c.args.thread.proc.user.0).disconnect c.args.thread c.args.moment c.self.inside.users c.self.inside.tables c.args.resources.now c.requires.user none)
 
 pub returns-in_default-thread-clause-ok : goal.returns-in_default-thread-clause-ok
 returns-in_default-thread-clause-ok c =
     let none : taken_call (thread_row c.self.inside.users c.args.thread) ≡ None = rw (← c.in-Some.ensures.row, ← c.in-Some-process_mut.ensures.row, ← c.in_default-thread.ensures.row) refl in
     rw (c.nothing-in_default-thread.ensures, ← c.self.view_is, process-put_back c.self.inside.users c.args.thread.proc c.in-Some.processes.now c.in-Some-process_mut.process.now c.in-Some.ensures.row c.in-Some-process_mut.ensures.row)
-    (Serves-untaken c.args.thread c.args.moment c.self.inside.users c.self.inside.tables c.args.resources.now c.requires.user none)
+    (Serves-untaken (limits_of c.args.config.now c.args.thread.proc.user.0).disconnect c.args.thread c.args.moment c.self.inside.users c.self.inside.tables c.args.resources.now c.requires.user none)
 
 pub returns-in_default-taken-clause-ok : goal.returns-in_default-taken-clause-ok
 returns-in_default-taken-clause-ok c =
     let none : taken_call (thread_row c.self.inside.users c.args.thread) ≡ None = rw (← c.in-Some.ensures.row, ← c.in-Some-process_mut.ensures.row, ← c.in-Some-thread.ensures.row, ← c.in_default-taken.ensures.message) refl in
     rw (c.nothing-in_default-taken.ensures, ← c.self.view_is, process-put_back c.self.inside.users c.args.thread.proc c.in-Some.processes.now c.in-Some-process_mut.process.now c.in-Some.ensures.row c.in-Some-process_mut.ensures.row)
-    (Serves-untaken c.args.thread c.args.moment c.self.inside.users c.self.inside.tables c.args.resources.now c.requires.user none)
+    (Serves-untaken (limits_of c.args.config.now c.args.thread.proc.user.0).disconnect c.args.thread c.args.moment c.self.inside.users c.self.inside.tables c.args.resources.now c.requires.user none)
 
 pub returns-in_default-taken-clause-memory : goal.returns-in_default-taken-clause-memory
 returns-in_default-taken-clause-memory c =
@@ -77,7 +78,7 @@ trigger-requires c =
     c.in-Some-thread.cell.now c.in-Some-thread.ensures.row c.in-Some-taken.sent.now c.in-Some-taken.ensures.message c.call_of-call.result c.call_of-call.ensures.call c.args.moment
     c.meaning_of-meaning.result c.meaning_of-meaning.ensures.meaning c.context_of-context.result (rw c.caller.ensures at c.context_of-context.ensures.context)
     c.watch_message-watched.ensures.there c.watch_message-watched.result c.watch_message-watched.ensures.watched c.perform.new.self c.perform.new.all c.perform.new.reply c.in_ok-given.given c.in_ok-given.ensures.did in
-    record { fits = rw c.answer.ensures.queues (fits-answered done c.answer.new.process c.answer.ensures.process) }
+    record { fits = rw c.answer.ensures.queues (fits-answered done (limits_of c.args.config.now c.args.thread.proc.user.0).disconnect c.answer.new.process c.answer.ensures.process) }
 
 pub give_answers-requires : goal.give_answers-requires
 give_answers-requires c =
@@ -85,7 +86,7 @@ give_answers-requires c =
     c.in-Some-thread.cell.now c.in-Some-thread.ensures.row c.in-Some-taken.sent.now c.in-Some-taken.ensures.message c.call_of-call.result c.call_of-call.ensures.call c.args.moment
     c.meaning_of-meaning.result c.meaning_of-meaning.ensures.meaning c.context_of-context.result (rw c.caller.ensures at c.context_of-context.ensures.context)
     c.watch_message-watched.ensures.there c.watch_message-watched.result c.watch_message-watched.ensures.watched c.perform.new.self c.perform.new.all c.perform.new.reply c.in_ok-given.given c.in_ok-given.ensures.did in
-    record { answering = (performed done c.answer.new.process c.answer.ensures.process c.trigger.new.tables (rw c.answer.ensures.queues at c.trigger.ensures.triggered) c.answer.ensures.gone c.answer.ensures.lost).0 }
+    record { answering = (performed done (limits_of c.args.config.now c.args.thread.proc.user.0).disconnect c.answer.new.process c.answer.ensures.process c.trigger.new.tables (rw c.answer.ensures.queues at c.trigger.ensures.triggered) c.answer.ensures.gone c.answer.ensures.lost).0 }
 
 pub invariant_of-self-2 : goal.invariant_of-self-2
 invariant_of-self-2 c =
@@ -97,7 +98,7 @@ invariant_of-self-2 c =
       spare = c.answer.ensures.spare;
       shared = c.give_answers.ensures.kept;
       events = rw c.give_answers.ensures.queues
-          (places _ _ _ _ _ (performed done c.answer.new.process c.answer.ensures.process c.trigger.new.tables (rw c.answer.ensures.queues at c.trigger.ensures.triggered) c.answer.ensures.gone c.answer.ensures.lost).1 c.self.invariant.events);
+          (places _ _ _ _ _ (performed done (limits_of c.args.config.now c.args.thread.proc.user.0).disconnect c.answer.new.process c.answer.ensures.process c.trigger.new.tables (rw c.answer.ensures.queues at c.trigger.ensures.triggered) c.answer.ensures.gone c.answer.ensures.lost).1 c.self.invariant.events);
     }
 
 pub returns-clause-ok : goal.returns-clause-ok
@@ -107,7 +108,7 @@ returns-clause-ok c =
     c.meaning_of-meaning.result c.meaning_of-meaning.ensures.meaning c.context_of-context.result (rw c.caller.ensures at c.context_of-context.ensures.context)
     c.watch_message-watched.ensures.there c.watch_message-watched.result c.watch_message-watched.ensures.watched c.perform.new.self c.perform.new.all c.perform.new.reply c.in_ok-given.given c.in_ok-given.ensures.did in
     rw (← c.self.view_is, c.give_answers.ensures.queues, c.give_answers.ensures.users)
-    (performed done c.answer.new.process c.answer.ensures.process c.trigger.new.tables (rw c.answer.ensures.queues at c.trigger.ensures.triggered) c.answer.ensures.gone c.answer.ensures.lost).1
+    (performed done (limits_of c.args.config.now c.args.thread.proc.user.0).disconnect c.answer.new.process c.answer.ensures.process c.trigger.new.tables (rw c.answer.ensures.queues at c.trigger.ensures.triggered) c.answer.ensures.gone c.answer.ensures.lost).1
 
 pub returns-clause-room : goal.returns-clause-room
 returns-clause-room c =
@@ -115,7 +116,7 @@ returns-clause-room c =
     c.in-Some-thread.cell.now c.in-Some-thread.ensures.row c.in-Some-taken.sent.now c.in-Some-taken.ensures.message c.call_of-call.result c.call_of-call.ensures.call c.args.moment
     c.meaning_of-meaning.result c.meaning_of-meaning.ensures.meaning c.context_of-context.result (rw c.caller.ensures at c.context_of-context.ensures.context)
     c.watch_message-watched.ensures.there c.watch_message-watched.result c.watch_message-watched.ensures.watched c.perform.new.self c.perform.new.all c.perform.new.reply c.in_ok-given.given c.in_ok-given.ensures.did in
-    rw (← c.self.view_is, c.give_answers.ensures.queues) (room-performed done c.answer.new.process c.answer.ensures.process c.trigger.new.tables (rw c.answer.ensures.queues at c.trigger.ensures.triggered))
+    rw (← c.self.view_is, c.give_answers.ensures.queues) (room-performed done (limits_of c.args.config.now c.args.thread.proc.user.0).disconnect c.answer.new.process c.answer.ensures.process c.trigger.new.tables (rw c.answer.ensures.queues at c.trigger.ensures.triggered))
 
 pub returns-clause-memory : goal.returns-clause-memory
 returns-clause-memory c = rw (← c.self.view_is, ← c.in-Some.ensures.row, ← c.in-Some-process_mut.ensures.row) c.answer.ensures.memory

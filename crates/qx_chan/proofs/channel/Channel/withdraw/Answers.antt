@@ -1,5 +1,6 @@
 use Rattle.std.proofs.Common.{◌≡◌, Some, length, refl, sym, ◌∙◌, ap}
 use Rattle.std.specs.Option.{option_to_list}
+use Rattle.qx_types.specs.Configuration.{limits_of}
 use Rattle.qx_types.specs.Managers.{manager_number}
 use Rattle.qx_base.specs.declared.errno.Errno.TheVariants.{EINTR}
 use Rattle.qx_types.specs.declared.outcome.Answer.TheVariants.{Failed}
@@ -27,9 +28,9 @@ invariant_of-self c =
     record {
       spare = c.self.invariant.spare;
       shared = rw (c.disconnect.ensures.disconnected, c.withdraw.ensures.withdrawn, c.fail-lost.ensures.failed)
-          (Kept-withdrawn c.self.inside.users c.self.inside.tables.shared c.args.thread c.args.call queued c.self.invariant.shared f (Failed EINTR) (fails c.args.thread.tid EINTR _) c.withdraw.ensures.gone c.fail-lost.result (rw c.fail-lost.ensures.failed at c.fail-lost.ensures.lost));
+          (Kept-withdrawn c.self.inside.users c.self.inside.tables.shared c.args.thread c.args.call queued c.self.invariant.shared f (Failed EINTR) (fails c.args.thread.tid EINTR _) c.withdraw.ensures.gone (limits_of c.args.config.now c.args.thread.proc.user.0).disconnect c.fail-lost.result (rw c.fail-lost.ensures.failed at c.fail-lost.ensures.lost));
       events = c.self.invariant.events
-          ∙ sym (ap (λ (q : Shared). length q.pipes) c.disconnect.ensures.disconnected ∙ lost-fields c.args.thread.proc (λ q. length q.pipes) (λ q server. refl) (option_to_list c.fail-lost.result) c.withdraw.new.self ∙ ap (λ (q : Shared). length q.pipes) c.withdraw.ensures.withdrawn);
+          ∙ sym (ap (λ (q : Shared). length q.pipes) c.disconnect.ensures.disconnected ∙ lost-fields (limits_of c.args.config.now c.args.thread.proc.user.0).disconnect c.args.thread.proc (λ q. length q.pipes) (λ q server. refl) (option_to_list c.fail-lost.result) c.withdraw.new.self ∙ ap (λ (q : Shared). length q.pipes) c.withdraw.ensures.withdrawn);
     }
 
 pub returns : goal.returns
@@ -38,6 +39,6 @@ returns c =
     let f = failed c.args.thread.tid EINTR c.args.call.target.over in
     record {
       withdrawn = rw (← c.self.view_is, ← queued, c.disconnect.ensures.disconnected, c.withdraw.ensures.withdrawn, c.fail-lost.ensures.failed)
-          (shown-lost c.self.inside.users c.args.thread.proc f (with_shared_line c.self.inside.tables.shared (manager_number c.args.call.target.manager) (line_without c.args.thread.proc.user.0 (item.Message c.args.thread.proc.num c.args.thread.tid)))
+          (shown-lost c.self.inside.users (limits_of c.args.config.now c.args.thread.proc.user.0).disconnect c.args.thread.proc f (with_shared_line c.self.inside.tables.shared (manager_number c.args.call.target.manager) (line_without c.args.thread.proc.user.0 (item.Message c.args.thread.proc.num c.args.thread.tid)))
           c.self.inside.tables.mounts c.self.inside.tables.events.events c.fail-lost.result (rw c.fail-lost.ensures.failed at c.fail-lost.ensures.lost));
     }
