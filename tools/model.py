@@ -1,8 +1,8 @@
 #!/usr/bin/env python3
 """Checks a trace by the rules of docs/MACHINE.md, without any code of the program: tools/model.py < TRACE
 
-Standard input has the `user`, `ceiling`, `limit` and `workers` lines of the run's script and then what its `trace` printed,
-from step 1 on. Each step is taken here, and its outcome compared. The first that differs is reported, with its number, both
+Standard input has the `user`, `ceiling`, `disconnect`, `limit` and `workers` lines of the run's script and then what its `trace`
+printed, from step 1 on. Each step is taken here, and its outcome compared. The first that differs is reported, with its number, both
 outcomes and the rows that decide. The last line counts. The status is 0 where all agree, 1 at a difference, and 2 where the
 input is no trace.
 
@@ -35,8 +35,8 @@ LIMITS = {
     "events": 128,
 }
 CEILING = 63
+DISCONNECT = 255
 FIRST_CONNECTION, LAST_CONNECTION = 3, 66
-DISCONNECT_PRIORITY = 255
 MOST_PATH, MOST_COMPONENT = 1_024, 64
 MOST_BODY, HEADER = 4_160, 8
 MOST_BYTES = 4_096
@@ -491,10 +491,11 @@ class User:
     `answers` has the calls that waited and were answered in the step that is taken, each with its answer.
     """
 
-    def __init__(self, name, number, ceiling, limits):
+    def __init__(self, name, number, ceiling, disconnect, limits):
         self.name = name
         self.number = number
         self.ceiling = ceiling
+        self.disconnect = disconnect
         self.limits = {**LIMITS, **limits}
         self.processes = {}
         self.mounts = [Mount((name,), RAM, 1)]
@@ -905,11 +906,10 @@ class World:
     were taken, each as `Taken`, whose `owner` is the name of the user by or for whom it was taken, or None.
     """
 
-    def __init__(self, names, workers=1, ceilings=None, limits=None):
-        self.configuration = (names, workers, ceilings or {}, limits or {})
+    def __init__(self, names, workers, ceilings, disconnects, limits):
         self.users = {}
         for number, name in enumerate(names, 1):
-            self.users[name] = User(name, number, self.configuration[2].get(name, CEILING), self.configuration[3].get(name, {}))
+            self.users[name] = User(name, number, ceilings.get(name, CEILING), disconnects.get(name, DISCONNECT), limits.get(name, {}))
         self.lines = [[] for _ in MANAGERS]
         self.hands = {number: None for number in range(1, workers + 1)}
         self.history = []
@@ -993,7 +993,7 @@ class World:
                 servers[lowest_free(servers, 1)] = True
         elif used is not None:
             servers[used] = False
-            self.put(Item("disconnect", process, manager, DISCONNECT_PRIORITY, server=used))
+            self.put(Item("disconnect", process, manager, process.user.disconnect, server=used))
 
     # -- steps of clients
 
@@ -1447,17 +1447,18 @@ Line = namedtuple("Line", "word said moment", defaults=[None])
 
 
 class Configuration:
-    """The users, the workers, the ceilings and the limits of a script, as its first lines say."""
+    """The users and the workers of a script, and what is set for users, as its first lines say."""
 
     def __init__(self):
         self.names = []
         self.workers = None
         self.ceilings = {}
+        self.disconnects = {}
         self.limits = {}
 
     def enter(self, words):
         """Enters a line, if it is one of the configuration, and says whether it is."""
-        if words[0] not in ("user", "ceiling", "limit", "workers"):
+        if words[0] not in ("user", "ceiling", "disconnect", "limit", "workers"):
             return False
         getattr(self, f"enter_{words[0]}")(words[1:])
         return True
@@ -1468,10 +1469,16 @@ class Configuration:
         self.names.append(matched("[a-z][a-z0-9]{0,15}", words[0]))
 
     def enter_ceiling(self, words):
-        (name, ceiling), _ = read_words(["U", "PRIO"], words, self.names)
-        if name in self.ceilings or ceiling == 0:
+        self.enter_priority(self.ceilings, words)
+
+    def enter_disconnect(self, words):
+        self.enter_priority(self.disconnects, words)
+
+    def enter_priority(self, priorities, words):
+        (name, priority), _ = read_words(["U", "PRIO"], words, self.names)
+        if name in priorities or priority == 0:
             raise BadWord
-        self.ceilings[name] = ceiling
+        priorities[name] = priority
 
     def enter_limit(self, words):
         if len(words) != 3 or words[1] not in LIMITS:
@@ -1488,7 +1495,7 @@ class Configuration:
         self.workers = number_form(1, 8)(words[0], self.names)[0]
 
     def world(self):
-        return World(self.names, self.workers or 1, self.ceilings, self.limits)
+        return World(self.names, self.workers or 1, self.ceilings, self.disconnects, self.limits)
 
 
 def numbered_lines(text):
@@ -1688,7 +1695,7 @@ def rows_of(world, step):
     user = world.users[user_of(step)]
     process = None if step.word == "spawn" else user.processes.get(step.values[0][1])
     request = step.values[1] if step.word == "call" else None
-    rows = [f"user {user.name}: ceiling {user.ceiling}, limits {user.limits}"]
+    rows = [f"user {user.name}: ceiling {user.ceiling}, disconnect {user.disconnect}, limits {user.limits}"]
     rows += [f"mount {'/' + '/'.join(mount.prefix)}: {MANAGERS[mount.manager]}, root {mount.root}" for mount in user.mounts]
     if process is None:
         return [*rows, f"processes: {sorted(user.processes)}"]

@@ -2,8 +2,8 @@
 """Prints a pseudo-random script (docs/SCRIPT.md): tools/scripts.py SEED STEPS [--bad]
 
 Each line is chosen by what the model holds by then, so that in many scripts each outcome and each error comes: users, workers,
-ceilings and limits are drawn, and how a script goes on is drawn too. It prints about STEPS lines that take steps. At its end
-stand a `trace`, and a `show` and an `erased` of each user. With --bad, one line or more is changed so that it is bad most often.
+what is set for users and how a script goes on are drawn. It prints about STEPS lines that take steps. At its end stand a `trace`,
+and a `show` and an `erased` of each user. With --bad, one line or more is changed so that it is bad most often.
 The same words give the same script. Bad words are refused, with status 2.
 """
 
@@ -106,6 +106,8 @@ class Chooser:
         for name in names:
             if self.one_in(2):
                 lines.append(f"ceiling {name} {dice.choice([1, 20, 127, 255])}")
+            if self.one_in(2):
+                lines.append(f"disconnect {name} {dice.choice([1, 10, 20, 30, 127, 255])}")
             small = TIGHT.get(self.topic, SMALL) if self.one_in(2) else SMALL if self.one_in(4) else ()
             for limit in small:
                 most = SMALL[limit]
@@ -617,6 +619,7 @@ SPOILED = [
     lambda line: "workers 2",
     lambda line: "workers 9",
     lambda line: "ceiling ann 256",
+    lambda line: "disconnect ann 0",
     lambda line: "limit ann events 129",
     lambda line: "limit bob nothing 1",
     lambda line: "write ann.1.1 3 abc",

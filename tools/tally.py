@@ -90,6 +90,7 @@ mounted: ram, pipe, latch, mailbox, pump
 interrupted: nothing waits, in a line, received, asked already, waiting, asked already while waiting
 unblock finds: its call received, its call waiting, an answer, a later call in a line, a later call received, a later call waiting
 disconnect finds: another in use, none in use
+before a disconnect: message, unblock, disconnect
 due: pipe read, pipe write, pipe close, device read, device write, disconnect, several, nobody hears
 leaves: open, dup, stat, unlink, mknod, rename, close, interrupt, exit
 ended: nothing, an answer, in a line, received, its pulse in a line while received, its pulse held while received
@@ -268,6 +269,8 @@ class Look:
             told = words[1]
         elif told == "took":
             told = words[2]
+            if any(item.kind == "disconnect" for item in self.world.lines[step.values[1]]):
+                self.pairs.add(("before a disconnect", told))
         elif told == "reply" and words[2] != "-":
             told = "reply with bytes"
         elif told == "pulse":

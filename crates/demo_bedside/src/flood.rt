@@ -9,13 +9,17 @@ use qx_pool::{CallEnd, UnderLock};
 use qx_types::{Bytes, Coid, Manager, OFlags, Outcome, Prio, Proc, Request, Step, User};
 use std::alloc::{AllocError, Global};
 use std::sync::Wait;
+use std::sync::atomic::Ordering;
 use std::thread;
 
 /// How many threads flood.
 pub const FLOODERS: u8 = 4;
 
-/// After so many calls a thread ends its process and starts anew.
+/// A thread interrupts so many calls, makes so many others, ends its process and starts anew.
 const CALLS: u32 = 64;
+
+/// How often a thread looks for the answer of a call that it interrupted.
+const LOOKS: u32 = 1_000;
 
 /// What is left of a thread's process.
 #[derive(Clone, Copy, PartialEq, Eq)]
@@ -80,7 +84,7 @@ fn start<S: UnderLock, R: Wait>(
     Ok(None)
 }
 
-/// Attaches, opens and calls what it can, and ends its process.
+/// Attaches, interrupts, opens and calls what it can, and ends its process.
 fn live<S: UnderLock, R: Wait>(
     rt: &R,
     alloc: Global,
@@ -110,6 +114,16 @@ fn live<S: UnderLock, R: Wait>(
             prio: Prio(TRIAL_PRIORITY.0 + 1),
         },
     )?;
+    for turn in 0..CALLS {
+        if ward.stage() == Stage::Over {
+            break;
+        }
+        let word = ["pumps", "pipes", "log"][(turn % 3) as usize];
+        let path = path_of(alloc, user, word)?;
+        if interrupted(rt, ward, caller, Request::StatPath { path })? == Found::Gone {
+            return Ok(());
+        }
+    }
     for word in ["pumps/1", "pipes/1", "log"] {
         let open = open_of(path_of(alloc, user, word)?);
         if call(rt, caller, open)? == Found::Gone {
@@ -141,6 +155,35 @@ fn call<S: UnderLock, R: Wait>(
         CallEnd::WrongState => Ok(Found::Gone),
         CallEnd::Reply(..) | CallEnd::Failed(_) | CallEnd::Refused(_) => Ok(Found::There),
     }
+}
+
+/// Makes a call, interrupts it, and takes its answer. As nothing else of the process is attached to the manager, a disconnect pulse
+/// goes there. Where no answer comes, the process is given up.
+fn interrupted<S: UnderLock, R: Wait>(
+    rt: &R,
+    ward: &Ward<S>,
+    caller: &mut Caller<'_, S>,
+    request: Request,
+) -> Result<Found, Fault> {
+    let calling = caller.thread();
+    let call = Step::Call {
+        thread: calling,
+        request,
+    };
+    ward.flood.fetch_add(1, Ordering::SeqCst);
+    match caller.step(rt, call)? {
+        Outcome::Sent => {}
+        Outcome::Refused(_) => return Ok(Found::There),
+        _ => return Ok(Found::Gone),
+    }
+    caller.step(rt, Step::Interrupt { thread: calling })?;
+    for _ in 0..LOOKS {
+        if caller.step(rt, Step::TakeReply { thread: calling })? != Outcome::WrongState {
+            return Ok(Found::There);
+        }
+        thread::yield_now();
+    }
+    Ok(Found::Gone)
 }
 
 /// An open of what is made where it is not there. No call over it waits.

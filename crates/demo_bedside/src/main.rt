@@ -1,16 +1,17 @@
 //! A ward of beds: each has a syringe pump, a driver that ticks it by the clock, and a nurse who sets its rate, sleeps until its
-//! alarm, and silences it. One bed is on trial, and misbehaves: it floods its own pump, pipes and files at its ceiling, ends, starts
-//! anew, and sends hostile bytes. Half of a run is without its flood.
+//! alarm, and silences it. One bed is on trial, and misbehaves: it floods its own pump, pipes and files at its ceiling, interrupts its
+//! calls, ends, starts anew, and sends hostile bytes. Half of a run is without its flood.
 //!
 //! The words are `service` or `pool`, the seconds that each half takes, and, if there are not to be 8, the beds, of which the last is
-//! on trial (2 to 16), and, if not 2, the workers (1 to 8), and, if not 10, the milliseconds from tick to tick. A service runs for as
+//! on trial (2 to 16), and, if not 2, the workers (1 to 8), and, if not 10, the milliseconds from tick to tick, and, if those of a bed
+//! are not to have the bed's ceiling, the priority of all disconnect pulses (1 to 255, or 0 for the ceilings). A service runs for as
 //! long as is asked, months too; a pool stores each step, and at the end each well-behaved bed's transcript is compared with that of
 //! its erased run. Each second, and for each half at the end, a line tells calls a second, alarms, and the time from the tick that
 //! raises one to the nurse's answer, of the well-behaved beds, and the calls a second of the bed on trial.
 //!
 //! With no words a small run is made over both, which the gate compares: nothing is printed of clock or schedule.
 //!
-//! - `plan.rt`: the ward's configuration, with limits and ceilings; how long a run is
+//! - `plan.rt`: the ward's configuration, with limits and priorities; how long a run is
 //! - `ward.rt`: what all threads share
 //! - `runs.rt`: a run, over a pool and over a service
 //! - `crew.rt`: the threads, from their start to their end
@@ -36,7 +37,7 @@ mod ward;
 use anyhow::ensure;
 use figures::print_head;
 use plan::{Length, Plan};
-use qx_types::User;
+use qx_types::{Prio, User};
 use qx_world::Traced;
 use received::compare;
 use runs::{Run, run_pool, run_service};
@@ -49,6 +50,7 @@ const SMALL: Plan = Plan {
     beds: 3,
     workers: 2,
     period: Duration::ZERO,
+    disconnect: None,
     length: Length::Counted {
         alarms: 3,
         calls: 400,
@@ -87,7 +89,7 @@ fn main(rt: HostRuntime) -> anyhow::Result<ExitCode> {
         }
         Words::Bad => {
             eprintln!(rt;
-                "bedside: words: service|pool SECONDS [BEDS [WORKERS [MILLISECONDS]]], with 1 second or more, 2 to 16 beds and 1 to 8 workers"
+                "bedside: words: service|pool SECONDS [BEDS [WORKERS [MILLISECONDS [PRIORITY]]]], with 1 second or more, 2 to 16 beds, 1 to 8 workers and a priority of disconnect pulses of at most 255"
             )?;
             return Ok(ExitCode::from(2));
         }
@@ -113,14 +115,19 @@ fn plan_of(given: &[String]) -> Option<Plan> {
     let beds = number_of(given, 1, Some(8))?;
     let workers = number_of(given, 2, Some(2))?;
     let period = number_of(given, 3, Some(10))?;
-    let are_good = seconds >= 1 && (2..=16).contains(&beds) && (1..=8).contains(&workers);
-    if !are_good || given.len() > 4 {
+    let prio = number_of(given, 4, Some(0))?;
+    let are_good = seconds >= 1
+        && (2..=16).contains(&beds)
+        && (1..=8).contains(&workers)
+        && prio <= 255;
+    if !are_good || given.len() > 5 {
         return None;
     }
     Some(Plan {
         beds: beds.min(16) as u8,
         workers: workers.min(8) as u8,
         period: Duration::from_millis(period),
+        disconnect: (prio > 0).then_some(Prio(prio.min(255) as u8)),
         length: Length::Timed { seconds },
     })
 }

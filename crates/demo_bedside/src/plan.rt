@@ -15,7 +15,7 @@ const NAMES: [&str; 16] = [
 ];
 
 /// What a bed's nurse calls with, what its driver does, and what a bed on trial can't go above. So a nurse's call goes before all
-/// others, and whatever is sent from a bed on trial behind them.
+/// others, and whatever is sent from a bed on trial behind them, if a bed's disconnect pulses have the bed's ceiling.
 pub const NURSE_PRIORITY: Prio = Prio(100);
 
 pub const DRIVER_PRIORITY: Prio = Prio(90);
@@ -43,6 +43,8 @@ pub struct Plan {
     pub workers: u8,
     /// The time from one tick of a pump to the next; where it is zero, a tick follows the other at once.
     pub period: Duration,
+    /// The priority of all disconnect pulses. Without it those of a bed have the bed's ceiling.
+    pub disconnect: Option<Prio>,
     pub length: Length,
 }
 
@@ -73,7 +75,8 @@ impl Plan {
         NAMES[usize::from(user.0.saturating_sub(1) % 16)]
     }
 
-    /// The configuration: the beds by name, each with the limits of a bed, and with the ceiling that its calls need.
+    /// The configuration: the beds by name, each with the limits of a bed, with the ceiling that its calls need, and with the
+    /// priority of its disconnect pulses.
     pub fn config(&self, alloc: Global) -> anyhow::Result<Config> {
         let mut names = Vec::new(alloc);
         for number in 1..=self.beds {
@@ -89,7 +92,9 @@ impl Plan {
             } else {
                 NURSE_PRIORITY
             };
+            let disconnect = self.disconnect.unwrap_or(ceiling);
             let mut is_set = config.set_ceiling(user, ceiling).is_ok();
+            is_set &= config.set_disconnect_prio(user, disconnect).is_ok();
             for (name, most) in LIMITS {
                 is_set &= config.set_limit(user, name, most).is_ok();
             }

@@ -20,8 +20,8 @@ pub fn played_steps_can_be_said()
     ensures said { (text : List ℕ) (config : Configuration) (commands : List Command) → script text ≡ Good config commands → All (CanSay config.users) (played config commands).steps }
 {}
 
-/// The steps of a trace, with the users, their ceilings and limits and the number of workers before them, are a script that
-/// takes the same steps.
+/// The steps of a trace, with the users, what is set for them and the number of workers before them, are a script that takes
+/// the same steps.
 pub fn trace_replayed()
     ensures script { (config : Configuration) (steps : List Step) → IsConfiguration config.users config.workers → HasLimits config → All (CanSay config.users) steps → script (replay_text config steps) ≡ Good config (map Take steps) }
     ensures steps { (config : Configuration) (steps : List Step) → (played config (map Take steps)).steps ≡ steps }

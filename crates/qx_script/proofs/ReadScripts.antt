@@ -13,7 +13,7 @@ use Rattle.qx_types.specs.declared.limits.TheConstants.Limits.{USERS, WORKERS}
 use Rattle.qx_script.specs.declared.command.Command.{Command}
 use Rattle.qx_calls.specs.Forms.{CanBeWords, Line, Values, read_form}
 use Rattle.qx_calls.specs.inner.Forms.{made_of}
-use Rattle.qx_script.specs.Lines.{ceiling_line, command_of, limit_line, user_line, workers_line}
+use Rattle.qx_script.specs.Lines.{ceiling_line, command_of, disconnect_line, limit_line, user_line, workers_line}
 use Rattle.qx_script.specs.Settings.{CanBeSet, configured, is_allowed, sets_same}
 use Rattle.qx_script.specs.declared.setting.Setting.{Setting}
 use Rattle.qx_script.proofs.SettingLemmas.{configured_has, configured_users, configured_workers, unset_has}
@@ -128,9 +128,10 @@ words_read r (name ∷ words) next before all is =
     let rest = (and_parts (is_word name) _ all).1 in
     by_name (bytes_eq name user_line.name) (after_user r words) _ next (Read next) (user_line_read r words next before rest)
     (by_name (bytes_eq name ceiling_line.name) (after_setting ceiling_line r words) _ next (Read next) (setting_line_read ceiling_line r words next (λ values can. can.0) before rest)
+    (by_name (bytes_eq name disconnect_line.name) (after_setting disconnect_line r words) _ next (Read next) (setting_line_read disconnect_line r words next (λ values can. can.0) before rest)
     (by_name (bytes_eq name limit_line.name) (after_setting limit_line r words) _ next (Read next) (setting_line_read limit_line r words next (λ values can. can.0) before rest)
     (by_name (bytes_eq name workers_line.name) (after_workers r words) _ next (Read next) (workers_line_read r words next before)
-    (command_read r name words next before rest)))) is
+    (command_read r name words next before rest))))) is
 
 line_read : (r : Reading) (line : List ℕ) (next : Reading) → Read r → list_all is_in_line line ≡ true → after_line r line ≡ Some next → Read next
 unfolding after_line

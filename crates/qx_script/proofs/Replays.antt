@@ -23,12 +23,14 @@ use Rattle.qx_types.specs.declared.step.Step.{Step}
 use Rattle.qx_script.specs.declared.command.Command.{Command}
 use Rattle.qx_script.specs.declared.command.Command.TheVariants.{Take}
 use Rattle.qx_calls.specs.Forms.{CanBeSaid, Saying, line_text, words_said}
-use Rattle.qx_script.specs.Lines.{CanSay, ceiling_line, limit_line, step_said, user_line, workers_line}
+use Rattle.qx_script.specs.Lines.{CanSay, ceiling_line, disconnect_line, limit_line, step_said, user_line, workers_line}
 use Rattle.qx_script.specs.Replay.{replay_lines, replay_text, said_by, setting_of, setting_said, settings_from, settings_of, user_said, workers_said}
-use Rattle.qx_script.specs.Settings.{CanBeSet, configured, greatest, is_allowed, limit_number, set_by, set_to, sets_same}
+use Rattle.qx_script.specs.Settings.{CanBeSet, configured, greatest, is_allowed, name_number, set_by, set_to, sets_same}
 use Rattle.qx_script.specs.declared.setting.Setting.{Setting}
+use Rattle.qx_script.specs.declared.setting.SettingName.{SettingName}
+use Rattle.qx_script.specs.declared.setting.SettingName.TheVariants.{Ceiling, Disconnect, Limit}
 use Rattle.qx_script.proofs.SettingLemmas.{configured_more, in_range, set_within}
-use Rattle.qx_script.specs.Script.{Bad, Good, Reading, Script, after_line, after_words, is_new_user, script, script_from, unread, with_command, with_setting, with_user, with_workers}
+use Rattle.qx_script.specs.Script.{Bad, Good, Reading, Script, after_line, after_words, is_new_user, is_skipped, script, script_from, unread, with_command, with_setting, with_user, with_workers}
 use Rattle.qx_script.specs.StepText.{step_text}
 use Rattle.qx_words.specs.Kinds.{is_word, is_word_byte}
 use Rattle.qx_words.specs.Words.{greatest_byte, greatest_of_four_bytes, lines_of}
@@ -96,13 +98,15 @@ setting_text : Configuration → Setting → List ℕ
 setting_text config setting = line_text config (setting_said setting)
 
 -- a setting has a line
-name_of_setting : (user : User) (limit : Option LimitName) (value : ℕ) → is_word (said_by user limit value).name ≡ true
-name_of_setting user None value = refl
-name_of_setting user (Some limit) value = refl
+name_of_setting : (user : User) (name : SettingName) (value : ℕ) → is_word (said_by user name value).name ≡ true
+name_of_setting user Ceiling value = refl
+name_of_setting user Disconnect value = refl
+name_of_setting user (Limit limit) value = refl
 
-can_say_setting : (users : List (List ℕ)) (user : User) (limit : Option LimitName) (value : ℕ) → 1 ≤ user.0 → user.0 ≤ length users → value ≤ greatest limit → CanBeSaid users (said_by user limit value)
-can_say_setting users user None value some within few = ((some, within), (omega (arith, few), tt))
-can_say_setting users user (Some limit) value some within few = ((some, within), (tt, (most_fits limit value few, tt)))
+can_say_setting : (users : List (List ℕ)) (user : User) (name : SettingName) (value : ℕ) → 1 ≤ user.0 → user.0 ≤ length users → value ≤ greatest name → CanBeSaid users (said_by user name value)
+can_say_setting users user Ceiling value some within few = ((some, within), (omega (arith, few), tt))
+can_say_setting users user Disconnect value some within few = ((some, within), (omega (arith, few), tt))
+can_say_setting users user (Limit limit) value some within few = ((some, within), (tt, (most_fits limit value few, tt)))
   where
     most_fits : (limit : LimitName) (value : ℕ) → value ≤ most_of limit → value ≤ greatest_of_four_bytes
     most_fits Processes value few = omega (arith, few)
@@ -116,7 +120,7 @@ can_say_setting users user (Some limit) value some within few = ((some, within),
     most_fits Events value few = omega (arith, few)
 
 can_say : (config : Configuration) (setting : Setting) → CanBeSet (length config.users) setting → CanBeSaid config.users (setting_said setting)
-can_say config setting can = can_say_setting config.users setting.user setting.limit setting.value can.some can.within (in_range setting can.allowed).1
+can_say config setting can = can_say_setting config.users setting.user setting.name setting.value can.some can.within (in_range setting can.allowed).1
 
 settings_in_lines : (config : Configuration) (settings : List Setting) (more : List (List ℕ)) → IsConfiguration config.users config.workers → All (CanBeSet (length config.users)) settings
     → list_all (list_all is_in_line) more ≡ true → list_all (list_all is_in_line) (map (setting_text config) settings ++ more) ≡ true
@@ -124,8 +128,13 @@ unfolding setting_text
 settings_in_lines config [] more valid each rest = rest
 settings_in_lines config (setting ∷ settings) more valid each rest =
     and_from (list_all is_in_line (line_text config (setting_said setting))) _
-    (said_in_line config (setting_said setting) valid (name_of_setting setting.user setting.limit setting.value) (can_say config setting (All-head (CanBeSet (length config.users)) setting settings each)))
+    (said_in_line config (setting_said setting) valid (name_of_setting setting.user setting.name setting.value) (can_say config setting (All-head (CanBeSet (length config.users)) setting settings each)))
     (settings_in_lines config settings more valid (All-tail (CanBeSet (length config.users)) setting settings each) rest)
+
+-- a line that is no comment, in words
+in_words : (config : Configuration) (r : Reading) (saying : Saying) → is_skipped (line_text config saying) ≡ false → IsConfiguration config.users config.workers → is_word saying.name ≡ true → CanBeSaid config.users saying
+    → after_line r (line_text config saying) ≡ after_words r (words_said config saying)
+in_words config r saying said valid name can = line_in_words r (line_text config saying) said ∙ ap (after_words r) (text_in_words config saying valid name can)
 
 -- users
 
@@ -161,8 +170,7 @@ user_taken config done name rest workers configured valid =
     let within : length done < length users = grind (arith, common_steps) in
     let good : is_user_name name ≡ true = subst (λ (n : List ℕ). is_user_name n ≡ true) (get_or-append_seam done name rest []) (valid.good_names (length done) [] within) in
     let r = naming done [] in
-    line_in_words r (line_text config (user_said name)) refl
-    ∙ ap (after_words r) (text_in_words config (user_said name) configured refl (good, tt))
+    in_words config r (user_said name) refl configured refl (good, tt)
     ∙ ap (λ (said : Option (List ℕ)). said >>= with_user r) (line_again user_line config (name, tt) configured (good, tt))
     ∙ chosen (is_new_user r name) (Some (naming (done ++ name ∷ []) [])) None (new_user done name rest workers valid)
 
@@ -212,7 +220,7 @@ fresh_behind done own (setting ∷ rest) apart fresh =
     )
 
 own_fresh : (user : ℕ) (limits : UserLimits) → AreFresh [] (settings_of user limits)
-own_fresh user limits = (refl, (refl, (refl, (refl, (refl, (refl, (refl, (refl, (refl, (refl, tt))))))))))
+own_fresh user limits = (refl, (refl, (refl, (refl, (refl, (refl, (refl, (refl, (refl, (refl, (refl, tt)))))))))))
 
 -- those of users before that one set nothing of it
 abbrev AreBefore : ℕ → List Setting → Type 0
@@ -223,26 +231,26 @@ none_before user [] setting before of = refl
 none_before user (other ∷ done) setting before of =
     let earlier = All-head (λ (s : Setting). s.user.0 < user) other done before in
     let apart : eqb setting.user.0 other.user.0 ≡ false = grind (arith, nat_tests) in
-    or_false (eqb (limit_number setting.limit) (limit_number other.limit) && eqb setting.user.0 other.user.0) (list_any (sets_same setting) done)
-    (and_false (eqb (limit_number setting.limit) (limit_number other.limit)) (eqb setting.user.0 other.user.0) apart)
+    or_false (eqb (name_number setting.name) (name_number other.name) && eqb setting.user.0 other.user.0) (list_any (sets_same setting) done)
+    (and_false (eqb (name_number setting.name) (name_number other.name)) (eqb setting.user.0 other.user.0) apart)
     (none_before user done setting (All-tail (λ (s : Setting). s.user.0 < user) other done before) of)
   where
     and_false : (a b : Bool) → b ≡ false → (a && b) ≡ false
     and_false true b is = is
     and_false false b is = refl
 
-each_own : (P : Setting → Type 0) (user : ℕ) (limits : UserLimits) → ((limit : Option LimitName) (value : ℕ) → P (setting_of user limit value)) → All P (settings_of user limits)
+each_own : (P : Setting → Type 0) (user : ℕ) (limits : UserLimits) → ((name : SettingName) (value : ℕ) → P (setting_of user name value)) → All P (settings_of user limits)
 each_own P user limits each =
-    All-from_recursion P (settings_of user limits) (each None limits.ceiling, (each (Some Processes) limits.processes, (each (Some Connections) limits.connections, (each (Some Servers) limits.servers, (each (Some Blocks) limits.blocks, (each (Some Inodes) limits.inodes, (each (Some File) limits.file, (each (Some Bytes) limits.bytes, (each (Some Mounts) limits.mounts, (each (Some Events) limits.events, tt))))))))))
+    All-from_recursion P (settings_of user limits) (each Ceiling limits.ceiling, (each Disconnect limits.disconnect, (each (Limit Processes) limits.processes, (each (Limit Connections) limits.connections, (each (Limit Servers) limits.servers, (each (Limit Blocks) limits.blocks, (each (Limit Inodes) limits.inodes, (each (Limit File) limits.file, (each (Limit Bytes) limits.bytes, (each (Limit Mounts) limits.mounts, (each (Limit Events) limits.events, tt)))))))))))
 
 all_fresh : (user : ℕ) (all : List UserLimits) (done : List Setting) → AreBefore user done → AreFresh done (settings_from user all)
 all_fresh user [] done before = tt
 all_fresh user (limits ∷ others) done before =
     let P : Setting → Type 0 = λ setting. setting.user.0 < suc user in
-    let own = fresh_behind done [] (settings_of user limits) (each_own (λ setting. list_any (sets_same setting) done ≡ false) user limits (λ limit value. none_before user done (setting_of user limit value) before refl)) (own_fresh user limits) in
+    let own = fresh_behind done [] (settings_of user limits) (each_own (λ setting. list_any (sets_same setting) done ≡ false) user limits (λ name value. none_before user done (setting_of user name value) before refl)) (own_fresh user limits) in
     fresh_append done (settings_of user limits) (settings_from (suc user) others) (subst (λ (all : List Setting). AreFresh all (settings_of user limits)) (append-nil done) own)
     (all_fresh (suc user) others (done ++ settings_of user limits)
-    (All-append P done (settings_of user limits) (λ k d below. let less = before k d below in omega (arith, less)) (each_own P user limits (λ limit value. omega arith))))
+    (All-append P done (settings_of user limits) (λ k d below. let less = before k d below in omega (arith, less)) (each_own P user limits (λ name value. omega arith))))
 
 -- each of them can be set
 all_can : (config : Configuration) (user : ℕ) (all : List UserLimits) → 1 ≤ user → user + length all ≤ length config.users + 1 → All AreLimits all → All (CanBeSet (length config.users)) (settings_from user all)
@@ -250,33 +258,32 @@ all_can config user [] some few each = All-nil (CanBeSet (length config.users))
 all_can config user (limits ∷ others) some few each =
     let P = CanBeSet (length config.users) in
     let own = All-head AreLimits limits others each in
-    let can : (limit : Option LimitName) (value : ℕ) → (1 ≤ value) × (value ≤ greatest limit) → P (setting_of user limit value) = λ limit value range.
-    record { some = some; within = omega (arith, few); allowed = and_from (leb 1 value) (leb value (greatest limit)) (let low = range.0 in grind (arith, nat_tests)) (let high = range.1 in grind (arith, nat_tests)) } in
+    let can : (name : SettingName) (value : ℕ) → (1 ≤ value) × (value ≤ greatest name) → P (setting_of user name value) = λ name value range.
+    record { some = some; within = omega (arith, few); allowed = and_from (leb 1 value) (leb value (greatest name)) (let low = range.0 in grind (arith, nat_tests)) (let high = range.1 in grind (arith, nat_tests)) } in
     All-append P (settings_of user limits) (settings_from (suc user) others)
-    (All-from_recursion P (settings_of user limits) (can None limits.ceiling own.ceiling, (can (Some Processes) limits.processes own.processes, (can (Some Connections) limits.connections own.connections, (can (Some Servers) limits.servers own.servers, (can (Some Blocks) limits.blocks own.blocks, (can (Some Inodes) limits.inodes own.inodes, (can (Some File) limits.file own.file, (can (Some Bytes) limits.bytes own.bytes, (can (Some Mounts) limits.mounts own.mounts, (can (Some Events) limits.events own.events, tt)))))))))))
+    (All-from_recursion P (settings_of user limits) (can Ceiling limits.ceiling own.ceiling, (can Disconnect limits.disconnect own.disconnect, (can (Limit Processes) limits.processes own.processes, (can (Limit Connections) limits.connections own.connections, (can (Limit Servers) limits.servers own.servers, (can (Limit Blocks) limits.blocks own.blocks, (can (Limit Inodes) limits.inodes own.inodes, (can (Limit File) limits.file own.file, (can (Limit Bytes) limits.bytes own.bytes, (can (Limit Mounts) limits.mounts own.mounts, (can (Limit Events) limits.events own.events, tt))))))))))))
     (all_can config (suc user) others (omega arith) (omega (arith, few)) (All-tail AreLimits limits others each))
 
--- a line of theirs is taken
-setting_taken : (config : Configuration) (done : List Setting) (user : User) (limit : Option LimitName) (value : ℕ) → let setting : Setting = record { user = user; limit = limit; value = value } in IsConfiguration config.users config.workers
-    → CanBeSet (length config.users) setting → list_any (sets_same setting) done ≡ false → after_line (naming config.users done) (setting_text config setting) ≡ Some (naming config.users (done ++ setting ∷ []))
+-- a line of theirs is read as what it sets
+setting_again : (config : Configuration) (done : List Setting) (user : User) (name : SettingName) (value : ℕ) → let setting : Setting = record { user = user; name = name; value = value } in IsConfiguration config.users config.workers
+    → CanBeSaid config.users (said_by user name value) → after_line (naming config.users done) (setting_text config setting) ≡ with_setting (naming config.users done) setting
 unfolding after_words naming setting_text
-setting_taken config done user None value valid can fresh =
-    let setting : Setting = record { user = user; limit = None; value = value } in
-    let r = naming config.users done in
-    let said = setting_said setting in
-    let says = can_say config setting can in
-    line_in_words r (line_text config said) refl
-    ∙ ap (after_words r) (text_in_words config said valid refl says)
-    ∙ ap (λ (said : Option Setting). said >>= with_setting r) (line_again ceiling_line config (user, (value, tt)) valid says)
-    ∙ chosen (not (list_any (sets_same setting) done) && is_allowed setting) (Some (naming config.users (done ++ setting ∷ []))) None (and_from (not (list_any (sets_same setting) done)) (is_allowed setting) (ap not fresh) can.allowed)
-setting_taken config done user (Some limit) value valid can fresh =
-    let setting : Setting = record { user = user; limit = Some limit; value = value } in
-    let r = naming config.users done in
-    let said = setting_said setting in
-    let says = can_say config setting can in
-    line_in_words r (line_text config said) refl
-    ∙ ap (after_words r) (text_in_words config said valid refl says)
-    ∙ ap (λ (said : Option Setting). said >>= with_setting r) (line_again limit_line config (user, (limit, (value, tt))) valid says)
+setting_again config done user Ceiling value valid says =
+    in_words config (naming config.users done) (said_by user Ceiling value) refl valid refl says
+    ∙ ap (λ (said : Option Setting). said >>= with_setting (naming config.users done)) (line_again ceiling_line config (user, (value, tt)) valid says)
+setting_again config done user Disconnect value valid says =
+    in_words config (naming config.users done) (said_by user Disconnect value) refl valid refl says
+    ∙ ap (λ (said : Option Setting). said >>= with_setting (naming config.users done)) (line_again disconnect_line config (user, (value, tt)) valid says)
+setting_again config done user (Limit limit) value valid says =
+    in_words config (naming config.users done) (said_by user (Limit limit) value) refl valid refl says
+    ∙ ap (λ (said : Option Setting). said >>= with_setting (naming config.users done)) (line_again limit_line config (user, (limit, (value, tt))) valid says)
+
+-- and is taken
+setting_taken : (config : Configuration) (done : List Setting) (setting : Setting) → IsConfiguration config.users config.workers → CanBeSet (length config.users) setting
+    → list_any (sets_same setting) done ≡ false → after_line (naming config.users done) (setting_text config setting) ≡ Some (naming config.users (done ++ setting ∷ []))
+unfolding naming
+setting_taken config done setting valid can fresh =
+    setting_again config done setting.user setting.name setting.value valid (can_say config setting can)
     ∙ chosen (not (list_any (sets_same setting) done) && is_allowed setting) (Some (naming config.users (done ++ setting ∷ []))) None (and_from (not (list_any (sets_same setting) done)) (is_allowed setting) (ap not fresh) can.allowed)
 
 settings_taken : (config : Configuration) (done rest : List Setting) (number : ℕ) (lines : List (List ℕ)) (good : Script) → IsConfiguration config.users config.workers
@@ -287,7 +294,7 @@ settings_taken config done [] number lines good valid each fresh more =
 settings_taken config done (setting ∷ rest) number lines good valid each fresh more =
     let P = CanBeSet (length config.users) in
     step_on (naming config.users done) (naming config.users (done ++ setting ∷ [])) (setting_text config setting) number (map (setting_text config) rest ++ lines)
-    (setting_taken config done setting.user setting.limit setting.value valid (All-head P setting rest each) fresh.0)
+    (setting_taken config done setting valid (All-head P setting rest each) fresh.0)
     ∙ settings_taken config (done ++ setting ∷ []) rest (number + 1) lines good valid (All-tail P setting rest each) fresh.1
     (subst (λ (all : List Setting). (number : ℕ) → script_from (naming config.users all) number lines ≡ good) (sym (append_assoc done (setting ∷ []) rest)) more)
 
@@ -304,51 +311,52 @@ found_at (z ∷ front) x rest = found_at front x rest
 abbrev holding : Configuration → List UserLimits → Configuration
 holding config all = record config { limits = all }
 
-set_here : (config : Configuration) (front : List UserLimits) (x : UserLimits) (rest : List UserLimits) (limit : Option LimitName) (value : ℕ) → AreLimits x
-    → set_by (setting_of (suc (length front)) limit value) (holding config (front ++ x ∷ rest)) ≡ holding config (front ++ set_to limit value x ∷ rest)
+set_here : (config : Configuration) (front : List UserLimits) (x : UserLimits) (rest : List UserLimits) (name : SettingName) (value : ℕ) → AreLimits x
+    → set_by (setting_of (suc (length front)) name value) (holding config (front ++ x ∷ rest)) ≡ holding config (front ++ set_to name value x ∷ rest)
 unfolding limits_of
-set_here config front x rest limit value within =
+set_here config front x rest name value within =
     let all = front ++ x ∷ rest in
     let place : suc (length front) - 1 ≡ length front = omega arith in
     let same : in_ranges (get_or all (length front) default_limits) ≡ x = ap in_ranges (found_at front x rest) ∙ sym (in_ranges_same x within) in
-    ap (λ k. holding config (slice_set all k (set_to limit value (in_ranges (get_or all (length front) default_limits))))) place
-    ∙ (ap (λ limits. holding config (slice_set all (length front) (set_to limit value limits))) same
-    ∙ ap (holding config) (at_place front x (set_to limit value x) rest))
+    ap (λ k. holding config (slice_set all k (set_to name value (in_ranges (get_or all (length front) default_limits))))) place
+    ∙ (ap (λ limits. holding config (slice_set all (length front) (set_to name value limits))) same
+    ∙ ap (holding config) (at_place front x (set_to name value x) rest))
 
 -- one after the other, of one user
 pub record Valued : Type 0 where
-  pub limit : Option LimitName
+  pub name : SettingName
   pub value : ℕ
 
 abbrev own_of : ℕ → List Valued → List Setting
-own_of user values = map (λ (v : Valued). setting_of user v.limit v.value) values
+own_of user values = map (λ (v : Valued). setting_of user v.name v.value) values
 
 abbrev set_in_turn : List Valued → UserLimits → UserLimits
 set_in_turn [] limits = limits
-set_in_turn (v ∷ values) limits = set_in_turn values (set_to v.limit v.value limits)
+set_in_turn (v ∷ values) limits = set_in_turn values (set_to v.name v.value limits)
 
 abbrev IsRanged : Valued → Type 0
-IsRanged v = (1 ≤ v.value) × (v.value ≤ greatest v.limit)
+IsRanged v = (1 ≤ v.value) × (v.value ≤ greatest v.name)
 
 own_set : (config : Configuration) (front : List UserLimits) (x : UserLimits) (rest : List UserLimits) (values : List Valued) → AreLimits x → AllByRecursion IsRanged values
     → configured (own_of (suc (length front)) values) (holding config (front ++ x ∷ rest)) ≡ holding config (front ++ set_in_turn values x ∷ rest)
 own_set config front x rest [] within each = refl
 own_set config front x rest (v ∷ values) within each =
-    ap (configured (own_of (suc (length front)) values)) (set_here config front x rest v.limit v.value within)
-    ∙ own_set config front (set_to v.limit v.value x) rest values (set_within v.limit v.value x within each.0.0 each.0.1) each.1
+    ap (configured (own_of (suc (length front)) values)) (set_here config front x rest v.name v.value within)
+    ∙ own_set config front (set_to v.name v.value x) rest values (set_within v.name v.value x within each.0.0 each.0.1) each.1
 
 abbrev values_of : UserLimits → List Valued
 values_of limits =
-    record { limit = None; value = limits.ceiling }
-    ∷ record { limit = Some Processes; value = limits.processes }
-    ∷ record { limit = Some Connections; value = limits.connections }
-    ∷ record { limit = Some Servers; value = limits.servers }
-    ∷ record { limit = Some Blocks; value = limits.blocks }
-    ∷ record { limit = Some Inodes; value = limits.inodes }
-    ∷ record { limit = Some File; value = limits.file }
-    ∷ record { limit = Some Bytes; value = limits.bytes }
-    ∷ record { limit = Some Mounts; value = limits.mounts }
-    ∷ record { limit = Some Events; value = limits.events }
+    record { name = Ceiling; value = limits.ceiling }
+    ∷ record { name = Disconnect; value = limits.disconnect }
+    ∷ record { name = Limit Processes; value = limits.processes }
+    ∷ record { name = Limit Connections; value = limits.connections }
+    ∷ record { name = Limit Servers; value = limits.servers }
+    ∷ record { name = Limit Blocks; value = limits.blocks }
+    ∷ record { name = Limit Inodes; value = limits.inodes }
+    ∷ record { name = Limit File; value = limits.file }
+    ∷ record { name = Limit Bytes; value = limits.bytes }
+    ∷ record { name = Limit Mounts; value = limits.mounts }
+    ∷ record { name = Limit Events; value = limits.events }
     ∷ []
 
 all_set : (config : Configuration) (front rest : List UserLimits) → All AreLimits rest
@@ -358,7 +366,7 @@ all_set config front (limits ∷ rest) each =
     let own = All-head AreLimits limits rest each in
     let user = suc (length front) in
     let tail = replicate (length rest) default_limits in
-    let ranged : AllByRecursion IsRanged (values_of limits) = (own.ceiling, (own.processes, (own.connections, (own.servers, (own.blocks, (own.inodes, (own.file, (own.bytes, (own.mounts, (own.events, tt)))))))))) in
+    let ranged : AllByRecursion IsRanged (values_of limits) = (own.ceiling, (own.disconnect, (own.processes, (own.connections, (own.servers, (own.blocks, (own.inodes, (own.file, (own.bytes, (own.mounts, (own.events, tt))))))))))) in
     let longer : suc (length (front ++ limits ∷ [])) ≡ suc user = omega (arith, length_push front limits) in
     configured_more (settings_of user limits) (settings_from (suc user) rest) (holding config (front ++ default_limits ∷ tail))
     ∙ ap (configured (settings_from (suc user) rest)) (own_set config front default_limits tail (values_of limits) default_within ranged)
@@ -382,8 +390,7 @@ workers_taken config valid =
     let low : leb 1 workers ≡ true = let some = valid.some_worker in grind (arith, nat_tests) in
     let high : leb workers WORKERS ≡ true = let few = valid.few_workers in grind (arith, nat_tests) in
     let can : workers ≤ greatest_byte = omega (arith, valid.few_workers) in
-    line_in_words r (line_text config (workers_said workers)) refl
-    ∙ ap (after_words r) (text_in_words config (workers_said workers) valid refl (can, tt))
+    in_words config r (workers_said workers) refl valid refl (can, tt)
     ∙ ap (λ (said : Option ℕ). said >>= with_workers r) (line_again workers_line config (workers, tt) valid (can, tt))
     ∙ chosen (leb 1 workers && leb workers WORKERS) (Some (serving config [])) None (and_from (leb 1 workers) (leb workers WORKERS) low high)
 

@@ -1,5 +1,5 @@
 -- What a configuration is once the lines of a script have set what they set.
-use Rattle.std.proofs.Common.{◌≡◌, ◌∙◌, ◌-◌, ◌+◌, ◌≤◌, ℕ, true, leb, List, [], ◌∷◌, ◌++◌, Option, Some, None, length, replicate, refl, arith}
+use Rattle.std.proofs.Common.{◌≡◌, ◌∙◌, ◌-◌, ◌+◌, ◌≤◌, ℕ, true, leb, List, [], ◌∷◌, ◌++◌, length, replicate, refl, arith}
 use Rattle.std.specs.Prelude.{All}
 use Rattle.std.proofs.lemmas.Bool.Decides.{nat_tests}
 use Rattle.std.proofs.lemmas.List.{length-replicate, length-set}
@@ -7,30 +7,32 @@ use Rattle.std.proofs.lemmas.List.Elements.{All-head, All-replicate, All-set, Al
 use Rattle.std.proofs.lemmas.Bool.{and_parts}
 use Rattle.qx_types.specs.Configuration.{Configuration, HasLimits, limits_of}
 use Rattle.qx_types.specs.UserLimits.{AreLimits, UserLimits, default_limits}
-use Rattle.qx_types.specs.declared.user_limits.LimitName.{LimitName}
 use Rattle.qx_types.proofs.LimitLemmas.{default_within, limited, limits_within}
 use Rattle.qx_script.specs.declared.setting.Setting.{Setting}
+use Rattle.qx_script.specs.declared.setting.SettingName.{SettingName}
+use Rattle.qx_script.specs.declared.setting.SettingName.TheVariants.{Ceiling, Disconnect, Limit}
 use Rattle.qx_script.specs.Settings.{CanBeSet, configured, greatest, is_allowed, set_by, set_to}
 
 -- a value that may be set is in its range
-pub in_range : (setting : Setting) → is_allowed setting ≡ true → (1 ≤ setting.value) × (setting.value ≤ greatest setting.limit)
+pub in_range : (setting : Setting) → is_allowed setting ≡ true → (1 ≤ setting.value) × (setting.value ≤ greatest setting.name)
 in_range setting allowed =
-    let parts = and_parts (leb 1 setting.value) (leb setting.value (greatest setting.limit)) allowed in
+    let parts = and_parts (leb 1 setting.value) (leb setting.value (greatest setting.name)) allowed in
     let some : leb 1 setting.value ≡ true = parts.0 in
-    let few : leb setting.value (greatest setting.limit) ≡ true = parts.1 in
+    let few : leb setting.value (greatest setting.name) ≡ true = parts.1 in
     (grind (arith, nat_tests), grind (arith, nat_tests))
 
-pub set_within : (limit : Option LimitName) (n : ℕ) (limits : UserLimits) → AreLimits limits → 1 ≤ n → n ≤ greatest limit → AreLimits (set_to limit n limits)
-set_within None n limits within some few = record { ceiling = (some, few); processes = within.processes; connections = within.connections; servers = within.servers; blocks = within.blocks; inodes = within.inodes; file = within.file; bytes = within.bytes; mounts = within.mounts; events = within.events }
-set_within (Some limit) n limits within some few = limited limit n limits within (some, few)
+pub set_within : (name : SettingName) (n : ℕ) (limits : UserLimits) → AreLimits limits → 1 ≤ n → n ≤ greatest name → AreLimits (set_to name n limits)
+set_within Ceiling n limits within some few = record { ceiling = (some, few); disconnect = within.disconnect; processes = within.processes; connections = within.connections; servers = within.servers; blocks = within.blocks; inodes = within.inodes; file = within.file; bytes = within.bytes; mounts = within.mounts; events = within.events }
+set_within Disconnect n limits within some few = record { ceiling = within.ceiling; disconnect = (some, few); processes = within.processes; connections = within.connections; servers = within.servers; blocks = within.blocks; inodes = within.inodes; file = within.file; bytes = within.bytes; mounts = within.mounts; events = within.events }
+set_within (Limit limit) n limits within some few = limited limit n limits within (some, few)
 
 set_keeps : (setting : Setting) (config : Configuration) → CanBeSet (length config.users) setting → HasLimits config → HasLimits (set_by setting config)
 set_keeps setting config can has =
     let range = in_range setting can.allowed in
-    let now = set_to setting.limit setting.value (limits_of config setting.user.0) in
+    let now = set_to setting.name setting.value (limits_of config setting.user.0) in
     record {
       each_user = length-set config.limits (setting.user.0 - 1) now ∙ has.each_user;
-      in_range = All-set AreLimits config.limits (setting.user.0 - 1) now (set_within setting.limit setting.value (limits_of config setting.user.0) (limits_within config setting.user.0) range.0 range.1) has.in_range;
+      in_range = All-set AreLimits config.limits (setting.user.0 - 1) now (set_within setting.name setting.value (limits_of config setting.user.0) (limits_within config setting.user.0) range.0 range.1) has.in_range;
     }
 
 pub configured_has : (settings : List Setting) (config : Configuration) → All (CanBeSet (length config.users)) settings → HasLimits config → HasLimits (configured settings config)

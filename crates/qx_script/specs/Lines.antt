@@ -7,6 +7,7 @@ use Rattle.qx_types.specs.declared.request.Request.{Request}
 use Rattle.qx_types.specs.declared.step.Step.{Step}
 use Rattle.qx_types.specs.declared.step.Step.TheVariants.{Spawn, Exit, Call, TakeReply, TakePulse, SetPrio, Interrupt, Mount, Receive, Perform}
 use Rattle.qx_script.specs.declared.setting.Setting.{Setting}
+use Rattle.qx_script.specs.declared.setting.SettingName.TheVariants.{Ceiling, Disconnect, Limit}
 use Rattle.qx_script.specs.declared.command.Command.{Command}
 use Rattle.qx_script.specs.declared.command.Command.TheVariants.{Take, Serve, Do, Show, Erased, Trace}
 use Rattle.qx_calls.specs.Calls.{call_in_line, call_said}
@@ -20,10 +21,13 @@ abbrev pub user_line : Line (List ℕ)
 user_line = record { name = codes "user"; form = AName then end; made = λ name. name }
 
 abbrev pub ceiling_line : Line Setting
-ceiling_line = record { name = codes "ceiling"; form = AUser then AByte then end; made = λ user prio. record { user = user; limit = None; value = prio } }
+ceiling_line = record { name = codes "ceiling"; form = AUser then AByte then end; made = λ user prio. record { user = user; name = Ceiling; value = prio } }
+
+abbrev pub disconnect_line : Line Setting
+disconnect_line = record { name = codes "disconnect"; form = AUser then AByte then end; made = λ user prio. record { user = user; name = Disconnect; value = prio } }
 
 abbrev pub limit_line : Line Setting
-limit_line = record { name = codes "limit"; form = AUser then ALimit then AFourByteNumber then end; made = λ user limit n. record { user = user; limit = Some limit; value = n } }
+limit_line = record { name = codes "limit"; form = AUser then ALimit then AFourByteNumber then end; made = λ user limit n. record { user = user; name = Limit limit; value = n } }
 
 abbrev pub workers_line : Line ℕ
 workers_line = record { name = codes "workers"; form = AByte then end; made = λ workers. workers }

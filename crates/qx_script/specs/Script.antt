@@ -11,7 +11,7 @@ use Rattle.qx_script.specs.declared.script.Script as code
 use Rattle.qx_script.specs.declared.script.Script.TheVariants as variant
 use Rattle.qx_script.specs.declared.setting.Setting.{Setting}
 use Rattle.qx_calls.specs.Forms.{Line, read_form}
-use Rattle.qx_script.specs.Lines.{ceiling_line, command_of, limit_line, user_line, workers_line}
+use Rattle.qx_script.specs.Lines.{ceiling_line, command_of, disconnect_line, limit_line, user_line, workers_line}
 use Rattle.qx_script.specs.Settings.{configured, is_allowed, sets_same}
 use Rattle.qx_words.specs.Words.{lines_of, words_of}
 
@@ -77,6 +77,7 @@ after_words reading [] = None
 after_words reading (name ∷ words) =
     if bytes_eq name user_line.name then after_user reading words
     else if bytes_eq name ceiling_line.name then after_setting ceiling_line reading words
+    else if bytes_eq name disconnect_line.name then after_setting disconnect_line reading words
     else if bytes_eq name limit_line.name then after_setting limit_line reading words
     else if bytes_eq name workers_line.name then after_workers reading words
     else option_map (with_command reading) (command_of reading.users name words)

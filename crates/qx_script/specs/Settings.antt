@@ -1,44 +1,48 @@
--- What the lines of a script set for users: ceilings and limits.
-use Rattle.std.specs.Prelude.{ℕ, ◌==◌, ◌≤◌, ◌&&◌, Bool, IsTrue, List, [], ◌∷◌, Option, Some, None, nat_le}
+-- What the lines of a script set for users: ceilings, priorities of disconnect pulses, and limits.
+use Rattle.std.specs.Prelude.{ℕ, ◌==◌, ◌≤◌, ◌&&◌, Bool, IsTrue, List, [], ◌∷◌, nat_le}
 use Rattle.qx_types.specs.Configuration.{Configuration, limits_of, with_limits}
 use Rattle.qx_types.specs.UserLimits.{UserLimits, most_of, with_limit}
 use Rattle.qx_types.specs.declared.limits.TheConstants.Limits.{PRIORITY}
-use Rattle.qx_types.specs.declared.user_limits.LimitName.{LimitName}
 use Rattle.qx_types.specs.declared.user_limits.LimitName.TheVariants.{Processes, Connections, Servers, Blocks, Inodes, File, Bytes, Mounts, Events}
 use Rattle.qx_script.specs.declared.setting.Setting.{Setting}
+use Rattle.qx_script.specs.declared.setting.SettingName.{SettingName}
+use Rattle.qx_script.specs.declared.setting.SettingName.TheVariants.{Ceiling, Disconnect, Limit}
 
--- the greatest value that may be set of a limit, or of the ceiling
-abbrev pub greatest : Option LimitName → ℕ
-greatest None = PRIORITY
-greatest (Some limit) = most_of limit
+-- the greatest value that may be set of a priority, or of a limit
+abbrev pub greatest : SettingName → ℕ
+greatest Ceiling = PRIORITY
+greatest Disconnect = PRIORITY
+greatest (Limit limit) = most_of limit
 
 abbrev pub is_allowed : Setting → Bool
-is_allowed setting = nat_le 1 setting.value && nat_le setting.value (greatest setting.limit)
+is_allowed setting = nat_le 1 setting.value && nat_le setting.value (greatest setting.name)
 
--- the ceiling and the limits have numbers of their own
-abbrev pub limit_number : Option LimitName → ℕ
-limit_number None = 0
-limit_number (Some Processes) = 1
-limit_number (Some Connections) = 2
-limit_number (Some Servers) = 3
-limit_number (Some Blocks) = 4
-limit_number (Some Inodes) = 5
-limit_number (Some File) = 6
-limit_number (Some Bytes) = 7
-limit_number (Some Mounts) = 8
-limit_number (Some Events) = 9
+-- each has a number of its own
+abbrev pub name_number : SettingName → ℕ
+name_number Ceiling = 0
+name_number Disconnect = 1
+name_number (Limit Processes) = 2
+name_number (Limit Connections) = 3
+name_number (Limit Servers) = 4
+name_number (Limit Blocks) = 5
+name_number (Limit Inodes) = 6
+name_number (Limit File) = 7
+name_number (Limit Bytes) = 8
+name_number (Limit Mounts) = 9
+name_number (Limit Events) = 10
 
 -- two of them set the same of one user
 abbrev pub sets_same : Setting → Setting → Bool
-sets_same setting other = (limit_number setting.limit == limit_number other.limit) && (setting.user.0 == other.user.0)
+sets_same setting other = (name_number setting.name == name_number other.name) && (setting.user.0 == other.user.0)
 
--- another value of the ceiling or of a limit
-abbrev pub set_to : Option LimitName → ℕ → UserLimits → UserLimits
-set_to None n limits = record limits { ceiling = n }
-set_to (Some limit) n limits = with_limit limit n limits
+-- another value of one of them
+abbrev pub set_to : SettingName → ℕ → UserLimits → UserLimits
+set_to Ceiling n limits = record limits { ceiling = n }
+set_to Disconnect n limits = record limits { disconnect = n }
+set_to (Limit limit) n limits = with_limit limit n limits
 
 abbrev pub set_by : Setting → Configuration → Configuration
-set_by setting config = with_limits config setting.user.0 (set_to setting.limit setting.value (limits_of config setting.user.0))
+set_by setting config = with_limits config setting.user.0 (set_to setting.name setting.value (limits_of config setting.user.0))
 
 -- one after the other
 abbrev pub configured : List Setting → Configuration → Configuration

@@ -1,11 +1,11 @@
 ghost use Rattle.std.specs.Prelude.{◌≡◌, ◌≤◌, ℕ, IfOk, IfSome, List, length, map, option_map, true};
 ghost use Rattle.qx_types.specs.Configuration.{is_user_name};
 ghost use Rattle.qx_calls.specs.Forms.{◌then◌, end, read_form, read_words};
-ghost use Rattle.qx_script.specs.Lines.{ceiling_line, command_of, do_of, erased_line, exit_line, interrupt_line, limit_line, mount_line, perform_line, prio_line, line_of_receive, pulse_line, reply_line, serve_line, show_line, spawn_line, step_in_line, trace_line, user_line, workers_line};
+ghost use Rattle.qx_script.specs.Lines.{ceiling_line, command_of, disconnect_line, do_of, erased_line, exit_line, interrupt_line, limit_line, mount_line, perform_line, prio_line, line_of_receive, pulse_line, reply_line, serve_line, show_line, spawn_line, step_in_line, trace_line, user_line, workers_line};
 ghost use Rattle.qx_words.specs.Kinds.{AProcess, AThread};
 
 use crate::command::Command;
-use crate::setting::Setting;
+use crate::setting::{Setting, SettingName};
 use qx_calls::lines::call;
 use qx_types::{Bytes, NoMemory, Prio, Proc, Step, Thread, Worker};
 use qx_words::Users;
@@ -35,7 +35,24 @@ pub fn ceiling(users: &Users, words: &[&[u8]]) -> Option<Setting>
     let prio = byte(*prio)?;
     Some(Setting {
         user,
-        limit: None,
+        name: SettingName::Ceiling,
+        value: u32::from(prio),
+    })
+}
+
+/// `disconnect USER PRIORITY`
+pub fn disconnect(users: &Users, words: &[&[u8]]) -> Option<Setting>
+    ensures setting { result ≡ read_form disconnect_line users.now (map (λ word. word.now) words.now) }
+    ensures within { IfSome result (λ setting. (1 ≤ setting.user.0) × (setting.user.0 ≤ length users.now)) }
+{
+    let [user, prio] = words else {
+        return None;
+    };
+    let user = users.find(*user)?;
+    let prio = byte(*prio)?;
+    Some(Setting {
+        user,
+        name: SettingName::Disconnect,
         value: u32::from(prio),
     })
 }
@@ -53,7 +70,7 @@ pub fn limit(users: &Users, words: &[&[u8]]) -> Option<Setting>
     let value = four_byte_number(*number)?;
     Some(Setting {
         user,
-        limit: Some(name),
+        name: SettingName::Limit(name),
         value,
     })
 }

@@ -4,7 +4,7 @@ ghost use Rattle.std.specs.List.{list_any};
 ghost use Rattle.qx_script.specs.Settings.{CanBeSet, configured, sets_same};
 
 use crate::command::Command;
-use crate::lines::{ceiling, command, limit, user, workers};
+use crate::lines::{ceiling, command, disconnect, limit, user, workers};
 use crate::script::Script;
 use crate::setting::Setting;
 use qx_types::{Config, Limits, NoMemory};
@@ -80,6 +80,9 @@ impl Reading {
             self.read_user(alloc, rest)
         } else if *name == b"ceiling".as_slice() {
             let setting = ceiling(&self.users, rest);
+            self.add_setting(setting)
+        } else if *name == b"disconnect".as_slice() {
+            let setting = disconnect(&self.users, rest);
             self.add_setting(setting)
         } else if *name == b"limit".as_slice() {
             let setting = limit(&self.users, rest);

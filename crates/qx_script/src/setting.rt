@@ -1,15 +1,25 @@
 ghost use Rattle.std.specs.Prelude.{◌≡◌, length};
 ghost use Rattle.qx_types.specs.declared.limits.TheConstants.Limits.{PRIORITY};
-ghost use Rattle.qx_script.specs.Settings.{CanBeSet, greatest, is_allowed, limit_number, set_by, sets_same};
+ghost use Rattle.qx_script.specs.Settings.{CanBeSet, greatest, is_allowed, name_number, set_by, sets_same};
 
 use qx_types::{Config, LimitName, Limits, Prio, User};
+
+/// What can be set for a user.
+#[derive(Clone, Copy, Debug)]
+pub enum SettingName {
+    /// The ceiling of the user's priorities.
+    Ceiling,
+    /// The priority of the user's disconnect pulses.
+    Disconnect,
+    /// One of the user's limits.
+    Limit(LimitName),
+}
 
 /// What a line sets for a user.
 #[derive(Clone, Copy, Debug)]
 pub struct Setting {
     pub user: User,
-    /// Which limit; none is the ceiling.
-    pub limit: Option<LimitName>,
+    pub name: SettingName,
     pub value: u32,
 }
 
@@ -18,14 +28,14 @@ impl Setting {
     pub fn is_allowed(&self) -> bool
         ensures { result ≡ is_allowed self.now }
     {
-        1 <= self.value && self.value as usize <= greatest(self.limit)
+        1 <= self.value && self.value as usize <= greatest(self.name)
     }
 
     /// Whether another one sets the same of the same user.
     pub fn sets_same(&self, other: &Setting) -> bool
         ensures { result ≡ sets_same self.now other.now }
     {
-        limit_number(self.limit) == limit_number(other.limit) && self.user == other.user
+        name_number(self.name) == name_number(other.name) && self.user == other.user
     }
 
     /// Sets it.
@@ -33,9 +43,12 @@ impl Setting {
         requires can { CanBeSet (length config.old.users) self }
         ensures set { config.new ≡ set_by self config.old }
     {
-        let done = match self.limit {
-            None => config.set_ceiling(self.user, Prio(self.value as u8)),
-            Some(limit) => config.set_limit(self.user, limit, self.value as usize),
+        let done = match self.name {
+            SettingName::Ceiling => config.set_ceiling(self.user, Prio(self.value as u8)),
+            SettingName::Disconnect => {
+                config.set_disconnect_prio(self.user, Prio(self.value as u8))
+            }
+            SettingName::Limit(limit) => config.set_limit(self.user, limit, self.value as usize),
         };
         let Ok(()) = done else {
             unreachable!();
@@ -43,30 +56,31 @@ impl Setting {
     }
 }
 
-/// The greatest value of a limit, or of the ceiling.
-fn greatest(limit: Option<LimitName>) -> usize
-    ensures { result ≡ greatest limit }
+/// The greatest value of a priority, or of a limit.
+fn greatest(name: SettingName) -> usize
+    ensures { result ≡ greatest name }
 {
-    match limit {
-        None => usize::from(Limits::PRIORITY),
-        Some(limit) => limit.most(),
+    match name {
+        SettingName::Ceiling | SettingName::Disconnect => usize::from(Limits::PRIORITY),
+        SettingName::Limit(limit) => limit.most(),
     }
 }
 
-/// A number for the ceiling and for each limit.
-fn limit_number(limit: Option<LimitName>) -> u8
-    ensures { result ≡ limit_number limit }
+/// A number for each of them.
+fn name_number(name: SettingName) -> u8
+    ensures { result ≡ name_number name }
 {
-    match limit {
-        None => 0,
-        Some(LimitName::Processes) => 1,
-        Some(LimitName::Connections) => 2,
-        Some(LimitName::Servers) => 3,
-        Some(LimitName::Blocks) => 4,
-        Some(LimitName::Inodes) => 5,
-        Some(LimitName::File) => 6,
-        Some(LimitName::Bytes) => 7,
-        Some(LimitName::Mounts) => 8,
-        Some(LimitName::Events) => 9,
+    match name {
+        SettingName::Ceiling => 0,
+        SettingName::Disconnect => 1,
+        SettingName::Limit(LimitName::Processes) => 2,
+        SettingName::Limit(LimitName::Connections) => 3,
+        SettingName::Limit(LimitName::Servers) => 4,
+        SettingName::Limit(LimitName::Blocks) => 5,
+        SettingName::Limit(LimitName::Inodes) => 6,
+        SettingName::Limit(LimitName::File) => 7,
+        SettingName::Limit(LimitName::Bytes) => 8,
+        SettingName::Limit(LimitName::Mounts) => 9,
+        SettingName::Limit(LimitName::Events) => 10,
     }
 }

@@ -117,6 +117,19 @@ fn sets_ceilings(config: &mut Config) -> bool {
         && config.limits(User(2)).ceiling() == Prio(255)
 }
 
+/// Whether the priorities of disconnect pulses are set so, and ceilings stay.
+fn sets_disconnect_prios(config: &mut Config) -> bool {
+    config.set_disconnect_prio(User(1), Prio(0)) == Err(OutOfRange)
+        && config.set_disconnect_prio(User(0), Prio(1)) == Err(OutOfRange)
+        && config.set_disconnect_prio(User(3), Prio(1)) == Err(OutOfRange)
+        && config.limits(User(1)).disconnect_prio() == Prio(255)
+        && config.set_disconnect_prio(User(2), Prio(255)) == Ok(())
+        && config.set_disconnect_prio(User(2), Prio(1)) == Ok(())
+        && config.limits(User(1)).disconnect_prio() == Prio(255)
+        && config.limits(User(2)).disconnect_prio() == Prio(1)
+        && config.limits(User(2)).ceiling() == Prio(255)
+}
+
 /// The names of all limits.
 const NAMES: [LimitName; 9] = [
     LimitName::Processes,
@@ -140,7 +153,7 @@ fn sets_limits(config: &mut Config) -> bool {
 }
 
 /// Whether a limit is set from 1 to its default for users who are there, the last one holds, upwards too, and that of
-/// another user stays, as does the ceiling.
+/// another user stays, as do the priorities.
 fn sets_limit(config: &mut Config, name: LimitName) -> bool {
     let most = name.most();
     config.set_limit(User(1), name, 0) == Err(OutOfRange)
@@ -154,12 +167,15 @@ fn sets_limit(config: &mut Config, name: LimitName) -> bool {
         && config.limits(User(2)).get(name) == most
         && config.limits(User(1)).get(name) == most
         && config.limits(User(2)).ceiling() == Prio(255)
+        && config.limits(User(2)).disconnect_prio() == Prio(1)
 }
 
 fn names(alloc: Global) -> Result<bool, NoMemory> {
     match config(alloc)? {
         Some(mut config) => {
-            let is_set = sets_ceilings(&mut config) && sets_limits(&mut config);
+            let is_set = sets_ceilings(&mut config)
+                && sets_disconnect_prios(&mut config)
+                && sets_limits(&mut config);
             Ok(is_set && is_of_ann_and_bob(&config.clone()?))
         }
         None => Ok(false),

@@ -1,8 +1,9 @@
-use Rattle.std.proofs.Common.{◌∙◌, List, [], ◌∷◌, None, ap, length, sym, take}
+use Rattle.std.proofs.Common.{◌∙◌, List, [], ◌∷◌, ap, length, sym, take}
 use Rattle.std.specs.Prelude.{slice_index_or}
 use Rattle.std.proofs.lemmas.List.{take_more}
 use Rattle.qx_types.specs.Configuration.{Configuration}
 use Rattle.qx_script.specs.declared.setting.Setting.{Setting}
+use Rattle.qx_script.specs.declared.setting.SettingName.TheVariants.{Ceiling}
 use Rattle.qx_script.specs.Settings.{configured, set_by}
 use Rattle.qx_script.proofs.SettingLemmas.{configured_more}
 use Rattle.qx_script.proofs.reading.set_all.Goals as goal
@@ -11,7 +12,7 @@ pub settings-preserved : goal.settings-preserved
 settings-preserved c =
     let all = c.args.settings.now in
     let place = c.settings.setting-index in
-    let none : Setting = record { user = record { 0 = 0 }; limit = None; value = 0 } in
+    let none : Setting = record { user = record { 0 = 0 }; name = Ceiling; value = 0 } in
     let setting : Setting = slice_index_or all place none in
     let more = take_more all place none c.settings-test.true in
     record {
