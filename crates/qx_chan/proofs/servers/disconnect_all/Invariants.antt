@@ -8,4 +8,4 @@ use Rattle.qx_chan.proofs.servers.disconnect_all.Given as goal
 
 -- the pulses of those before it stand in their lines
 abbrev pub invariant-loop-number : goal.invariant-loop-number
-invariant-loop-number l = l.queues ≡ with_lost (limits_of l.config.now l.proc.user.0).disconnect l.proc (flat_map option_to_list (take l.number (used_servers l.process.now))) l.initial.queues
+invariant-loop-number l = l.queues ≡ with_lost (limits_of l.config l.proc.user.0).disconnect l.proc (flat_map option_to_list (take l.number (used_servers l.process))) l.initial.queues
