@@ -74,3 +74,5 @@ pub mod Parted
 pub mod Linked
 -- what remains of a process that has ended
 pub mod Remaining
+-- priorities of threads and of what stands in lines
+pub mod Priorities

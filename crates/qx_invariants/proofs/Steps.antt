@@ -219,9 +219,9 @@ pub record IsKept (config : Configuration) (P : ℕ → Part → Type 0) : Type 
 
 module _ (config : Configuration) (P : ℕ → Part → Type 0) (keeps : IsKept config P) where
   -- each user's part has it
-  record HoldsIn (w : World) : Type 0 where
-    configured : w.config ≡ config
-    each : (user : ℕ) (part : Part) → row_at w.parts user ≡ Some part → P user part
+  pub record HoldsIn (w : World) : Type 0 where
+    pub configured : w.config ≡ config
+    pub each : (user : ℕ) (part : Part) → row_at w.parts user ≡ Some part → P user part
 
   end-holds : (user : ℕ) (before after : Part) (changes : List LineChange) (w : World) → HoldsIn w → P user after → HoldsIn (step_end user before after changes w)
   end-holds user before after changes w h own = record {
@@ -271,7 +271,7 @@ module _ (config : Configuration) (P : ℕ → Part → Type 0) (keeps : IsKept 
   step_of-holds w e None h = server-holds w e h
   step_of-holds w e (Some actor) h = client-holds w (user_of actor) e (row_at w.parts (user_of actor)) refl h
 
-  step-holds : (w : World) (e : Step) → HoldsIn w → HoldsIn (step w e).world
+  pub step-holds : (w : World) (e : Step) → HoldsIn w → HoldsIn (step w e).world
   unfolding step
   step-holds w e h = step_of-holds w e (actor_of e) h
 
@@ -298,6 +298,9 @@ module _ (config : Configuration) (P : ℕ → Part → Type 0) (keeps : IsKept 
     unfolding system.boot
     boot-config = refl
 
+    pub boot-holds : HoldsIn (boot config)
+    boot-holds = record { configured = boot-config; each = boot-each }
+
     -- in each world that a run reaches
     pub run-holds : (steps : List Step) (user : ℕ) (part : Part) → row_at (run config steps).world.parts user ≡ Some part → P user part
-    run-holds steps = (after-holds (boot config) steps (record { configured = boot-config; each = boot-each })).each
+    run-holds steps = (after-holds (boot config) steps boot-holds).each

@@ -5,7 +5,7 @@ use Rattle.std.specs.List.{count_by}
 use Rattle.qx_paths.specs.Prefixes.{MountPoint}
 use Rattle.qx_devices.specs.declared.Device.{Device}
 use Rattle.qx_types.specs.Configuration.{Configuration}
-use Rattle.qx_types.specs.UserLimits.{AreLimits}
+use Rattle.qx_types.specs.UserLimits.{AreLimits, UserLimits}
 use Rattle.qx_types.specs.declared.limits.TheConstants.Limits.{FIRST_CONNECTION, INODES, LAST_CONNECTION}
 use Rattle.qx_types.specs.declared.names.Manager.{Manager}
 use Rattle.qx_types.specs.declared.step.Step.{Step}
@@ -18,6 +18,8 @@ use Rattle.qx_machine.specs.declared.rows.Event.{Event}
 use Rattle.qx_machine.specs.declared.rows.Kind.{Kind}
 use Rattle.qx_machine.specs.declared.rows.Kind.TheVariants as kind
 use Rattle.qx_machine.specs.declared.rows.Ocb.{Ocb}
+use Rattle.qx_isolation.specs.declared.rows.OwnItem.{OwnItem}
+use Rattle.qx_isolation.specs.declared.rows.OwnItem.TheVariants.{Message, Unblock, Disconnect}
 use Rattle.qx_machine.specs.declared.rows.Pulse.{Pulse}
 use Rattle.qx_machine.specs.declared.rows.WaitingCall.{WaitingCall}
 use Rattle.qx_machine.specs.Calls.{server_count}
@@ -261,3 +263,11 @@ pub record WaitsOnce (part : Part) : Type 0 where
   pub few : (process thread : ℕ) → count_waiting (is_of process thread) part.resources.pipes ≤ 1
   -- that the process of a call has ended is said of such a process alone, which is there still
   pub gone : (process : ℕ) → has_ended_in (row_at part.processes process) ≡ false → count_waiting (though_gone (is_of_process process)) part.resources.pipes ≡ 0
+
+-- ---- priorities
+
+-- the greatest priority that an item may have of a user with these limits
+abbrev pub greatest_prio : UserLimits → OwnItem → ℕ
+greatest_prio limits (Message process thread) = limits.ceiling
+greatest_prio limits (Unblock process thread call) = limits.ceiling
+greatest_prio limits (Disconnect process server) = limits.disconnect

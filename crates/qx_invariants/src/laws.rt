@@ -1,18 +1,19 @@
 //! What holds of each user's resources in every world that a run reaches.
 
-ghost use Rattle.std.specs.Prelude.{◌≡◌, ℕ, ◌+◌, ◌≤◌, ◌<◌, ◌==◌, ◌||◌, Bool, false, true, List, [], ◌++◌, Some, count_by, if◌then◌else◌, length};
+ghost use Rattle.std.specs.Prelude.{◌≡◌, ℕ, ◌+◌, ◌≤◌, ◌<◌, ◌==◌, ◌||◌, Bool, false, true, List, [], ◌++◌, All, Some, count_by, if◌then◌else◌, length, max};
 ghost use Rattle.std.specs.Cmp.Lexicographic.{slice_cmp};
 ghost use Rattle.std.specs.List.Sorted.{IsStrictlySortedBy};
 ghost use Rattle.std.specs.Ordering.{nat_cmp};
 ghost use Rattle.qx_types.specs.Configuration.{Configuration, limits_of, name_bytes};
 ghost use Rattle.qx_types.specs.declared.limits.TheConstants.Limits.{PROCESSES};
+ghost use Rattle.qx_types.specs.declared.names.Manager.{Manager};
 ghost use Rattle.qx_types.specs.declared.step.Step.{Step};
 ghost use Rattle.qx_machine.specs.declared.rows.Client.{Client};
 ghost use Rattle.qx_machine.specs.declared.rows.Conditions.{Conditions};
 ghost use Rattle.qx_machine.specs.Events.{Events, event_count, triggered};
 ghost use Rattle.qx_machine.specs.Inodes.{blocks_of_client, is_clients};
 ghost use Rattle.qx_machine.specs.Listings.{listed_by, listed_next};
-ghost use Rattle.qx_machine.specs.Machine.{own_held};
+ghost use Rattle.qx_machine.specs.Machine.{line_of, own_held};
 ghost use Rattle.qx_machine.specs.Names.{listed, listing, names_in};
 ghost use Rattle.qx_machine.specs.Mounting.{new_resources};
 ghost use Rattle.qx_machine.specs.Parts.{Part};
@@ -23,7 +24,7 @@ ghost use Rattle.qx_machine.specs.Runs.{run};
 ghost use Rattle.qx_machine.specs.Settling.{is_held};
 ghost use Rattle.qx_machine.specs.Waiting.{is_call};
 ghost use Rattle.qx_invariants.specs.Changes.{Become};
-ghost use Rattle.qx_invariants.specs.Holds.{HasClients, HasConnections, HasContents, HasFewConnections, HasFewProcesses, HasFewServers, HasKinds, HasLimits, HasMade, HasMounts, HasNames, HasOpenWaiters, HasOwnWaiters, HasRoom, HasSettledPipes, HasTree, HasUses, HoldsInRuns, HoldsOfParts, IsOwnedBy, WaitsOnce, due_pulses};
+ghost use Rattle.qx_invariants.specs.Holds.{HasClients, HasConnections, HasContents, HasFewConnections, HasFewProcesses, HasFewServers, HasKinds, HasLimits, HasMade, HasMounts, HasNames, HasOpenWaiters, HasOwnWaiters, HasRoom, HasSettledPipes, HasTree, HasUses, HoldsInRuns, HoldsOfParts, IsOwnedBy, WaitsOnce, due_pulses, greatest_prio};
 ghost use Rattle.qx_invariants.specs.Waits.{count_waiting};
 
 /// A user's resources become what they are by a few kinds of change alone, one after another, each where it may happen.
@@ -90,6 +91,13 @@ pub fn processes_are_within_the_limit()
 #[tactic(auto, using(crate::proofs::Reached::run_few_servers))]
 pub fn server_connections_are_within_the_limit()
     ensures { HoldsOfParts HasFewServers }
+{}
+
+/// In no line has a message of a user, or a pulse that asks to unblock, a higher priority than the user's ceiling, nor has a
+/// disconnect pulse one above that of the user's disconnect pulses; so none has one above the greater of the two.
+pub fn items_are_within_ceilings()
+    ensures kinds { (config : Configuration) (steps : List Step) (manager : Manager) → All (λ queued. queued.prio.0 ≤ greatest_prio (limits_of config queued.user.0) queued.item) (line_of (run config steps).world manager) }
+    ensures greater { (config : Configuration) (steps : List Step) (manager : Manager) → All (λ queued. queued.prio.0 ≤ max (limits_of config queued.user.0).ceiling (limits_of config queued.user.0).disconnect) (line_of (run config steps).world manager) }
 {}
 
 /// What a path in a mount leads to, and what a client has open at a manager, is a directory or of the manager's own kind.
