@@ -1,5 +1,5 @@
 -- Priorities of threads, of what they sent and of what stands in lines: none is above the user's ceiling, but for disconnect pulses.
-use Rattle.std.proofs.Common.{◌≡◌, inl, inr, ℕ, zero, suc, ◌≤◌, ◌==◌, Bool, List, [], ◌∷◌, ◌++◌, drop, map, refl, sym, ap, ◌∙◌, subst, arith}
+use Rattle.std.proofs.Common.{true, false, ◌+◌, ◌≡◌, inl, inr, ℕ, zero, suc, ◌≤◌, ◌==◌, Bool, List, [], ◌∷◌, ◌++◌, drop, map, refl, sym, ap, ◌∙◌, subst, arith}
 use Rattle.std.specs.Prelude.{⊤, ◌&&◌, All, Option, Some, None, Result, Ok, Err, if◌then◌else◌, is_none, is_some, max, nat_le, nat_lt, replicate, take as take_first}
 use Rattle.std.specs.List.{AllByRecursion}
 use Rattle.std.proofs.Math.Nat.{le-max_left, le-max_right, le_trans}
