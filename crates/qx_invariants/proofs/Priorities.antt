@@ -480,9 +480,9 @@ module _ (config : Configuration) where
   into_fits (first ∷ line) new fits all = cond_both (nat_lt (rank first) (rank new)) (new ∷ first ∷ line) (first ∷ into rank line new) LineFits (λ before. (fits, all)) (λ after. (all.0, into_fits line new fits all.1))
 
   without_fits : (user : ℕ) (own : OwnItem) (line : List Queued) → LineFits line → LineFits (line_without user own line)
-  without_fits user own [] all = tt
-  without_fits user own (first ∷ line) all =
-      cond_both ((first.user.0 == user) && is_same_item first.item own) line (first ∷ line_without user own line) LineFits (λ same. all.1) (λ differs. (all.0, without_fits user own line all.1))
+  without_fits user removed [] all = tt
+  without_fits user removed (first ∷ line) all =
+      cond_both ((first.user.0 == user) && is_same_item first.item removed) line (first ∷ line_without user removed line) LineFits (λ same. all.1) (λ differs. (all.0, without_fits user removed line all.1))
 
   rest_fits : (line : List Queued) → LineFits line → LineFits (drop 1 line)
   rest_fits [] all = tt
