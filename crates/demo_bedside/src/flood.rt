@@ -118,8 +118,7 @@ fn live<S: UnderLock, R: Wait>(
         if ward.stage() == Stage::Over {
             break;
         }
-        let word = ["pumps", "pipes", "log"][(turn % 3) as usize];
-        let path = path_of(alloc, user, word)?;
+        let path = path_of(alloc, user, PLACES[(turn % 3) as usize])?;
         if interrupted(rt, ward, caller, Request::StatPath { path })? == Found::Gone {
             return Ok(());
         }
@@ -233,6 +232,9 @@ fn next_request(alloc: Global, user: User, turn: u32) -> Result<Request, AllocEr
         },
     })
 }
+
+/// What lies below the bed's top, at each of its managers.
+const PLACES: [&str; 3] = ["pumps", "pipes", "log"];
 
 /// More names.
 const NAMES: [&str; 4] = ["pumps/2", "pipes/2", "log/2", "log2"];
