@@ -94,9 +94,10 @@ impl Queues {
         ensures sent { self.new ≡ with_queues_line self.old (manager_number manager) (λ line. into machine.rank line (message_of thread prio.0)) }
     {
         let node = self.nodes.there(thread).message;
-        let line = &mut self.lines[manager.number()];
+        let number = manager.number();
+        let line = &mut self.lines[number];
         put_again(&mut self.table, line, node, prio);
-        self.marks = marked(self.marks, manager.number(), true);
+        self.marks = marked(self.marks, number, true);
     }
 
     /// Takes the first item of a line, a message or a pulse (C Library Reference: `MsgReceive`); the node of a disconnect pulse
@@ -107,9 +108,10 @@ impl Queues {
         ensures gone { IfSome result (λ first. IsGone first (drop 1 (queues_line self.old (manager_number manager)))) }
     {
         self.table.know();
-        let line = &mut self.lines[manager.number()];
+        let number = manager.number();
+        let line = &mut self.lines[number];
         let taken = take_out(&mut self.table, line);
-        self.marks = marked(self.marks, manager.number(), line.len() > 0);
+        self.marks = marked(self.marks, number, line.len() > 0);
         let (node, first) = taken?;
         match first.item {
             OwnItem::Message { .. } => {}
@@ -142,10 +144,11 @@ impl Queues {
         let Some(own) = self.nodes.at(thread) else {
             unreachable!();
         };
-        let line = &mut self.lines[manager.number()];
+        let number = manager.number();
+        let line = &mut self.lines[number];
         let pulse = queued_unblock(thread, call, prio);
         put_in(&mut self.table, line, own.unblock, pulse);
-        self.marks = marked(self.marks, manager.number(), true);
+        self.marks = marked(self.marks, number, true);
         self.nodes.set_asked(thread, Some(manager));
     }
 
@@ -160,9 +163,10 @@ impl Queues {
             unreachable!();
         };
         self.table.know();
-        let line = &mut self.lines[manager.number()];
+        let number = manager.number();
+        let line = &mut self.lines[number];
         remove(&mut self.table, line, own.message);
-        self.marks = marked(self.marks, manager.number(), line.len() > 0);
+        self.marks = marked(self.marks, number, line.len() > 0);
     }
 
     /// Takes the pulse that asks to unblock a thread from a call out of the line, if it stands there, as the call is
@@ -351,10 +355,11 @@ impl Queues {
         let Some(node) = self.nodes.disconnect(proc, server.manager) else {
             unreachable!();
         };
-        let line = &mut self.lines[server.manager.number()];
+        let number = server.manager.number();
+        let line = &mut self.lines[number];
         let pulse = queued_disconnect(proc, server, prio);
         put_in(&mut self.table, line, node, pulse);
-        self.marks = marked(self.marks, server.manager.number(), true);
+        self.marks = marked(self.marks, number, true);
         self.nodes.set_disconnect(proc, server.manager, None);
     }
 }
