@@ -1,5 +1,5 @@
 -- Priorities of threads, of what they sent and of what stands in lines: none is above the user's ceiling, but for disconnect pulses.
-use Rattle.std.proofs.Common.{true, false, ◌+◌, ◌≡◌, inl, inr, ℕ, zero, suc, ◌≤◌, ◌==◌, Bool, List, [], ◌∷◌, ◌++◌, drop, map, refl, sym, ap, ◌∙◌, subst, arith}
+use Rattle.std.proofs.Common.{true, false, ◌+◌, ◌≡◌, inl, inr, ℕ, zero, suc, ◌≤◌, ◌==◌, Bool, List, [], ◌∷◌, ◌++◌, drop, map, refl, sym, ◌∙◌, subst, arith}
 use Rattle.std.specs.Prelude.{⊤, ◌&&◌, All, Option, Some, None, Result, Ok, Err, if◌then◌else◌, is_none, is_some, max, nat_le, nat_lt, replicate, take as take_first}
 use Rattle.std.specs.List.{AllByRecursion}
 use Rattle.std.proofs.Math.Nat.{le-max_left, le-max_right, le_trans}
@@ -12,7 +12,7 @@ use Rattle.qx_types.specs.Step.{actor_of, user_of}
 use Rattle.qx_types.specs.UserLimits.{UserLimits}
 use Rattle.qx_base.specs.declared.errno.Errno.{Errno}
 use Rattle.qx_base.specs.declared.errno.Errno.TheVariants.{EAGAIN, EINTR, EINVAL, EPERM, EXDEV}
-use Rattle.qx_types.specs.declared.limits.TheConstants.Limits.{FIRST_CONNECTION, LAST_CONNECTION, THREADS}
+use Rattle.qx_types.specs.declared.limits.TheConstants.Limits.{THREADS}
 use Rattle.qx_types.specs.declared.names.Actor.{Actor}
 use Rattle.qx_types.specs.declared.names.Manager.{Manager}
 use Rattle.qx_types.specs.declared.names.Prio.{Prio}
@@ -51,7 +51,7 @@ use Rattle.qx_machine.specs.Events.{first_pulse}
 use Rattle.qx_machine.specs.Functions.{Deed, Reply}
 use Rattle.qx_isolation.specs.Judgements.{found, need, or_refused}
 use Rattle.qx_isolation.specs.Lines.{into, line_at, with_line}
-use Rattle.qx_machine.specs.Machine.{World, boot, boot_parts, changed_manager, client_step, is_same_item, item_to_do, item_to_take, line_after, line_of, line_without, lines_after, own_held, performed_part, queued_item, rank, received_part, server_step, step, step_of, with_empty_hand, with_taken}
+use Rattle.qx_machine.specs.Machine.{World, boot, changed_manager, client_step, is_same_item, line_after, line_of, line_without, lines_after, own_held, performed_part, queued_item, rank, received_part, server_step, step, step_of, with_empty_hand, with_taken}
 use Rattle.qx_machine.specs.Managers.{close_client}
 use Rattle.qx_machine.specs.Parts.{Change, Part, Put, Remove, disconnect, disconnects, thread_at, thread_of, with_process}
 use Rattle.qx_machine.specs.Performing.{Served, after_answer, after_message, after_serving, answered_changes, caller_of, context_of, deed_of, or_kept, own_change, serve_disconnect, serve_message, serve_pulse, served_changes, taken_in, with_answer, with_answers}
@@ -64,7 +64,7 @@ use Rattle.qx_isolation.specs.System as system
 use Rattle.qx_machine.specs.Users.{boot_part, client, serve, settle_part, take}
 use Rattle.qx_isolation.proofs.Places.{lowest_from_free}
 use Rattle.qx_isolation.proofs.Workers.{server_leaves}
-use Rattle.qx_machine.proofs.Gives.{Gives, found-row, gives_by, gives_done, gives_error, gives_more, gives_on, gives-value, need-true}
+use Rattle.qx_machine.proofs.Gives.{Gives, found-row, gives_by, gives_done, gives_error, gives_more, gives_on, gives-value}
 use Rattle.qx_attr.proofs.TableLemmas.{row-put}
 use Rattle.qx_invariants.specs.Holds.{greatest_prio}
 use Rattle.qx_invariants.proofs.Clients.{left_was}
