@@ -55,11 +55,12 @@ impl Process {
         requires priority { IsPriority prio.0 }
         ensures process { IfOk result (λ process. process ≡ machine.new_process threads prio.0) }
     {
+        let servers = servers::no_servers(alloc)?;
         Ok(Process {
             threads: threads::new_threads(threads, prio),
             connections: connections::no_connections(),
             sides: [None; PLACES],
-            servers: servers::no_servers(alloc)?,
+            servers,
             held: ArrayVec::new(),
         })
     }

@@ -1,6 +1,5 @@
-use Rattle.std.proofs.Common.{◌≡◌, ◌≤◌, length, map, ap, arith}
+use Rattle.std.proofs.Common.{◌≤◌, length, ap, arith}
 use Rattle.std.proofs.lemmas.Grind.{common_steps}
-use Rattle.qx_process.proofs.EndLemmas.{left}
 use Rattle.qx_process.proofs.servers.leave.Goals as goal
 
 pub returns : goal.returns

@@ -6,5 +6,5 @@ use Rattle.qx_process.proofs.process.Process.new.Goals as goal
 
 pub invariant_of-result : goal.invariant_of-result
 invariant_of-result c =
-    let none = c.in_ok-no_servers.ensures.none in
+    let none = c.in_ok-servers.ensures.none in
     rw (c.no_connections.ensures.none, none) (new-settled manager_count 0, length-replicate manager_count no_servers)
