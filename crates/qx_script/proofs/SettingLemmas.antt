@@ -1,5 +1,5 @@
 -- What a configuration is once the lines of a script have set what they set.
-use Rattle.std.proofs.Common.{◌≡◌, ◌∙◌, ◌-◌, ◌+◌, ◌≤◌, ℕ, true, leb, List, [], ◌∷◌, ◌++◌, length, replicate, refl, arith}
+use Rattle.std.proofs.Common.{◌≡◌, ◌∙◌, ◌-◌, ◌≤◌, ℕ, true, leb, List, [], ◌∷◌, ◌++◌, length, replicate, refl, arith}
 use Rattle.std.specs.Prelude.{All}
 use Rattle.std.proofs.lemmas.Bool.Decides.{nat_tests}
 use Rattle.std.proofs.lemmas.List.{length-replicate, length-set}
