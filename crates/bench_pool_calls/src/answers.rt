@@ -34,7 +34,7 @@ impl Told {
             CallEnd::Failed(error) => self.mix(2, 0, error.name().as_bytes()),
             CallEnd::Refused(error) => self.mix(3, 0, error.name().as_bytes()),
             CallEnd::WrongState => self.mix(4, 0, b""),
-            CallEnd::Stopped | CallEnd::NoMemory => {}
+            CallEnd::Stopped(_) | CallEnd::NoMemory => {}
         }
     }
 

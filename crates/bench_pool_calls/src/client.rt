@@ -7,7 +7,7 @@ use crate::answers::Told;
 use crate::calls::{next_request, next_step, path_of};
 use crate::dice::Dice;
 use bench_threads::Latencies;
-use qx_pool::{CallEnd, ClientOf, ServerOf, UnderLock};
+use qx_pool::{CallEnd, ClientOf, ServerOf, StepFault, UnderLock};
 use qx_types::{Coid, Manager, NoMemory, OFlags, Outcome, Prio, Proc, Request, Step, Thread, User};
 use std::alloc::Global;
 use std::sync::Wait;
@@ -174,7 +174,7 @@ impl<S: UnderLock> Player<'_, S> {
         if let Some(start) = start {
             self.times.add(nanos_since(rt, start));
         }
-        if matches!(end, CallEnd::Stopped | CallEnd::NoMemory) {
+        if matches!(end, CallEnd::Stopped(_) | CallEnd::NoMemory) {
             return Err(NoMemory);
         }
         self.told.end(&end);
@@ -218,7 +218,7 @@ impl<S: UnderLock> Player<'_, S> {
 }
 
 /// Interrupts the first threads of all processes of these users, over and over, so that no call waits for ever: in each
-/// millisecond those of one number. It ends once all is over, or stops the server where memory is short.
+/// millisecond those of one number. It ends once all is over or the server was stopped, or stops the server where memory is short.
 pub fn drive<S: UnderLock, R: Wait>(
     rt: &R,
     server: &ServerOf<S>,
@@ -236,9 +236,13 @@ pub fn drive<S: UnderLock, R: Wait>(
         num = num % 16 + 1;
         for user in 1..=users {
             let thread = first_thread(User(user), num);
-            if client.step(rt, server, Step::Interrupt { thread }).is_err() {
-                server.stop(rt);
-                return client.into_seat();
+            match client.step(rt, server, Step::Interrupt { thread }) {
+                Ok(_) => {}
+                Err(StepFault::Stopped(..)) => return client.into_seat(),
+                Err(StepFault::NoMemory(_)) => {
+                    server.stop(rt);
+                    return client.into_seat();
+                }
             }
         }
     }

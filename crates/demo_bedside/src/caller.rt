@@ -7,7 +7,7 @@ use crate::commands::bytes_of;
 use crate::plan::Plan;
 use crate::ward::{Ward, thread};
 use qx_devices::pump::{Command, Pump, pump_of};
-use qx_pool::{CallEnd, ClientOf, PulseEnd, UnderLock};
+use qx_pool::{CallEnd, ClientOf, PulseEnd, StepFault, UnderLock};
 use qx_types::{
     Bytes, Coid, Conds, MessageBytes, NotifyAction, OFlags, Outcome, Request, Step, Thread, User,
 };
@@ -102,7 +102,8 @@ impl<'s, S: UnderLock> Caller<'s, S> {
     {
         match self.client.step(rt, &self.ward.server, step) {
             Ok(outcome) => Ok(outcome),
-            Err(_) => Err(Fault::NoMemory),
+            Err(StepFault::Stopped(..)) => Err(Fault::Stopped),
+            Err(StepFault::NoMemory(_)) => Err(Fault::NoMemory),
         }
     }
 
@@ -111,7 +112,7 @@ impl<'s, S: UnderLock> Caller<'s, S> {
         match self.call(rt, request) {
             CallEnd::Reply(status, bytes) => Ok((status, bytes)),
             CallEnd::NoMemory => Err(Fault::NoMemory),
-            CallEnd::Stopped => Err(Fault::Stopped),
+            CallEnd::Stopped(_) => Err(Fault::Stopped),
             CallEnd::Failed(_) | CallEnd::Refused(_) | CallEnd::WrongState => {
                 Err(Fault::Unexpected)
             }
@@ -172,7 +173,7 @@ impl<'s, S: UnderLock> Caller<'s, S> {
         match self.client.pulse(rt, &self.ward.server) {
             PulseEnd::Pulse(ALARM, _) => Ok(()),
             PulseEnd::Pulse(..) | PulseEnd::WrongState => Err(Fault::Unexpected),
-            PulseEnd::Stopped => Err(Fault::Stopped),
+            PulseEnd::Stopped(_) => Err(Fault::Stopped),
             PulseEnd::NoMemory => Err(Fault::NoMemory),
         }
     }

@@ -150,7 +150,7 @@ fn call<S: UnderLock, R: Wait>(
 ) -> Result<Found, Fault> {
     match caller.call(rt, request) {
         CallEnd::NoMemory => Err(Fault::NoMemory),
-        CallEnd::Stopped => Err(Fault::Stopped),
+        CallEnd::Stopped(_) => Err(Fault::Stopped),
         CallEnd::WrongState => Ok(Found::Gone),
         CallEnd::Reply(..) | CallEnd::Failed(_) | CallEnd::Refused(_) => Ok(Found::There),
     }

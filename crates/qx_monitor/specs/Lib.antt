@@ -1,2 +1,3 @@
 pub mod Awaits
+pub mod Owed
 pub mod Waits

@@ -1,25 +1,28 @@
 //! What lies under the lock, and who waits for what.
 
-ghost use Rattle.std.specs.Prelude.{◌≡◌, ◌==◌, ◌&&◌, true, false, not, IfOk, is_some, nat_le, option_map};
+ghost use Rattle.std.specs.Prelude.{◌≡◌, ◌==◌, ◌&&◌, ◌⊎◌, None, Some, true, false, not, IfOk, OnErr, is_some, nat_le, option_map};
 ghost use Rattle.qx_types.specs.declared.names.Thread.{Thread};
 ghost use Rattle.qx_monitor.specs.Awaits.{is_to_come, is_to_come_of, looking_after, woken};
+ghost use Rattle.qx_monitor.specs.Owed.{AreReleased, Came, IfTook, copied, item_taken, next_item};
 ghost use Rattle.qx_types.specs.declared.step.Step.{Step};
 ghost use Rattle.qx_machine.specs.Machine as machine;
 ghost use Rattle.qx_world.specs.Seats.{Works};
 ghost use Rattle.qx_world.specs.Steps.{held_work};
 ghost use Rattle.qx_monitor.specs.Waits.{IsPossible, is_awaited, is_in};
+ghost use Rattle.qx_monitor.specs.declared.locked.Received.{Received};
 ghost use Rattle.qx_monitor.specs.declared.waits.Awaited.{Awaited};
 ghost use Rattle.qx_monitor.specs.declared.waits.Coming.{Coming};
 
+use crate::owed::{Released, Short, WasStopped};
 use crate::waits::{Awaited, Coming, ThreadSet, Waiting, Waits, Woken};
-use qx_types::{Item, Manager, MessageBytes, NoMemory, Outcome, Step, User, Worker};
-use qx_world::{UnderLock, WorkRef, World};
-use std::alloc::AllocError;
+use qx_types::{Item, MessageBytes, Outcome, Proc, Step, Thread, User, Worker};
+use qx_world::{UnderLock, Unstored, WorkRef, World};
 
-/// A world in which threads take steps, and what they wait for.
+/// A world in which threads take steps, and what they wait for. A step that others may wait for is taken by a function here or of
+/// `Monitor` that gives whom to wake.
 #[derive(Drop)]
 pub struct Locked<S> {
-    pub under: S,
+    pub(crate) under: S,
     /// The threads for whose answers clients wait.
     answers: Waits,
     /// The first threads of the processes for whose pulses clients wait.
@@ -34,6 +37,16 @@ pub struct Locked<S> {
 pub enum HeldCopy {
     Message(MessageBytes),
     Pulse,
+}
+
+/// What came of a worker's receive.
+pub enum Received {
+    /// The item that it took, and what it holds then, copied.
+    Took(Item, HeldCopy),
+    /// All lines are empty; or the worker is none, or holds an item already.
+    Ended,
+    /// The step, or the copy of what was received, wants memory.
+    Short(Short),
 }
 
 impl<S: UnderLock> Locked<S> {
@@ -54,21 +67,48 @@ impl<S: UnderLock> Locked<S> {
         }
     }
 
-    /// A worker receives the first item of a manager's line, and what it holds then is copied. None where the worker is none,
-    /// or holds an item already. Where the copy wants memory, the item was received.
-    pub fn receive(
-        &mut self,
-        seat: &mut S::Seat,
-        worker: Worker,
-        manager: Manager,
-    ) -> Result<Option<(Item, HeldCopy)>, NoMemory>
+    /// A worker receives the first item of the line that is next, and what it holds then is copied.
+    pub(crate) fn receive(&mut self, seat: &mut S::Seat, worker: Worker) -> Received
         ensures seat { Works S.adds S.keeps worker.0 seat.old seat.new }
+        ensures took { IfTook result (λ item held. next_item (S.world_of self.old.under) worker (S.next_of self.old.under) ≡ Some item) }
+        ensures copy { IfTook result (λ item held. held_work (S.world_of self.new.under) worker.0 ≡ Some (copied held)) }
+        ensures ended { result ≡ Received.Ended → (next_item (S.world_of self.old.under) worker (S.next_of self.old.under) ≡ None) ⊎ (held_work (S.world_of self.new.under) worker.0 ≡ None) }
+        ensures looking { self.new.looking ≡ self.old.looking }
     {
+        let Some(manager) = self.under.next_manager() else {
+            return Received::Ended;
+        };
         match self.under.take(seat, Step::Receive { worker, manager }) {
-            Ok(Outcome::Took(item)) => Ok(self.held(worker)?.map(|held| (item, held))),
-            Ok(_) => Ok(None),
-            Err(_) => Err(NoMemory),
+            Ok(outcome) => {
+                let Some(item) = item_taken(&outcome) else {
+                    return Received::Ended;
+                };
+                match self.held(worker) {
+                    Ok(Some(held)) => Received::Took(item, held),
+                    Ok(None) => Received::Ended,
+                    Err(short) => Received::Short(short),
+                }
+            }
+            Err(_) => Received::Short(Short::new()),
         }
+    }
+
+    /// A thread takes its answer, or the step comes back. No other thread waits for that.
+    pub fn take_reply(&mut self, seat: &mut S::Seat, thread: Thread) -> Result<Outcome, Unstored>
+        ensures told { IfOk result (λ outcome. outcome ≡ (machine.step (S.world_of self.old.under) (Step.TakeReply thread)).outcome) }
+        ensures seat { IfOk result (λ outcome. S.adds seat.old seat.new (Step.TakeReply thread) outcome) }
+        ensures kept { OnErr result (S.keeps seat.old seat.new) }
+    {
+        self.under.take(seat, Step::TakeReply { thread })
+    }
+
+    /// A process takes its first pulse, or the step comes back. No other thread waits for that.
+    pub fn take_pulse(&mut self, seat: &mut S::Seat, proc: Proc) -> Result<Outcome, Unstored>
+        ensures told { IfOk result (λ outcome. outcome ≡ (machine.step (S.world_of self.old.under) (Step.TakePulse proc)).outcome) }
+        ensures seat { IfOk result (λ outcome. S.adds seat.old seat.new (Step.TakePulse proc) outcome) }
+        ensures kept { OnErr result (S.keeps seat.old seat.new) }
+    {
+        self.under.take(seat, Step::TakePulse { proc })
     }
 
     /// Whether there is such a worker.
@@ -79,27 +119,24 @@ impl<S: UnderLock> Locked<S> {
     }
 
     /// A copy of what a worker holds, if it holds anything.
-    pub fn held(&self, worker: Worker) -> Result<Option<HeldCopy>, AllocError>
-        ensures { IfOk result (λ held. is_some held ≡ is_some (held_work (S.world_of self.now.under) worker.0)) }
+    pub fn held(&self, worker: Worker) -> Result<Option<HeldCopy>, Short>
+        ensures { IfOk result (λ held. option_map copied held ≡ held_work (S.world_of self.now.under) worker.0) }
     {
-        Ok(match self.world().held(worker) {
-            Some(WorkRef::Message(bytes)) => Some(HeldCopy::Message(bytes.clone()?)),
-            Some(WorkRef::Pulse) => Some(HeldCopy::Pulse),
-            None => None,
-        })
-    }
-
-    /// Whose item a worker holds.
-    pub fn user_of_work(&self, worker: Worker) -> Option<User>
-        ensures { option_map (λ user. user.0) result ≡ machine.owner (S.world_of self.now.under) (Step.Perform worker 0) }
-    {
-        self.world().owner(&Step::Perform { worker, moment: 0 })
+        match self.world().held(worker) {
+            Some(WorkRef::Message(bytes)) => match bytes.clone() {
+                Ok(bytes) => Ok(Some(HeldCopy::Message(bytes))),
+                Err(_) => Err(Short::new()),
+            },
+            Some(WorkRef::Pulse) => Ok(Some(HeldCopy::Pulse)),
+            None => Ok(None),
+        }
     }
 
     /// Whether what is awaited has yet to come, unless the server was stopped. If it is of a thread, it is marked that a client
     /// waits for it. A worker counts as one that looks for an item from where it begins to wait until it has the lock again.
     pub(crate) fn waits_for(&mut self, awaited: Awaited, waiting: Waiting) -> bool
         ensures told { result ≡ (not self.old.is_stopped && is_to_come (S.world_of self.old.under) awaited) }
+        ensures still { result ≡ (not self.new.is_stopped && is_to_come (S.world_of self.new.under) awaited) }
         ensures looking { self.new.looking ≡ looking_after waiting awaited self.old.looking }
         ensures answer { (thread : Thread) → awaited ≡ Awaited.OfThread Coming.Answer thread → result ≡ true → is_awaited self.new.answers thread ≡ true }
         ensures pulse { (thread : Thread) → awaited ≡ Awaited.OfThread Coming.Pulse thread → result ≡ true → is_awaited self.new.pulses thread ≡ true }
@@ -152,20 +189,33 @@ impl<S: UnderLock> Locked<S> {
 
     /// The threads of a user that clients wait for and of which that came: an answer, and a pulse of their process. Clients
     /// wait for them no longer.
-    pub fn released(&mut self, user: User) -> (ThreadSet, ThreadSet)
-        ensures answered { (thread : Thread) → IsPossible thread → is_in result.0 thread ≡ (((thread.proc.user.0 == user.0) && is_awaited self.old.answers thread) && not (is_to_come_of (S.world_of self.old.under) Coming.Answer thread)) }
-        ensures pulsed { (thread : Thread) → IsPossible thread → is_in result.1 thread ≡ (((thread.proc.user.0 == user.0) && is_awaited self.old.pulses thread) && not (is_to_come_of (S.world_of self.old.under) Coming.Pulse thread)) }
-        ensures answers { (thread : Thread) → is_awaited self.new.answers thread ≡ (is_awaited self.old.answers thread && not (is_in result.0 thread)) }
-        ensures pulses { (thread : Thread) → is_awaited self.new.pulses thread ≡ (is_awaited self.old.pulses thread && not (is_in result.1 thread)) }
+    fn released(&mut self, user: User) -> Released
+        ensures answered { Came (S.world_of self.old.under) Coming.Answer user.0 self.old.answers result.answered }
+        ensures pulsed { Came (S.world_of self.old.under) Coming.Pulse user.0 self.old.pulses result.pulsed }
+        ensures answers { (thread : Thread) → is_awaited self.new.answers thread ≡ (is_awaited self.old.answers thread && not (is_in result.answered thread)) }
+        ensures pulses { (thread : Thread) → is_awaited self.new.pulses thread ≡ (is_awaited self.old.pulses thread && not (is_in result.pulsed thread)) }
         ensures under { self.new.under ≡ self.old.under }
         ensures looking { self.new.looking ≡ self.old.looking }
         ensures stopped { self.new.is_stopped ≡ self.old.is_stopped }
     {
         let answered = self.came(Coming::Answer, self.answers.of(user));
         let pulsed = self.came(Coming::Pulse, self.pulses.of(user));
-        self.answers.remove(answered);
-        self.pulses.remove(pulsed);
-        (answered, pulsed)
+        self.answers.remove(&answered);
+        self.pulses.remove(&pulsed);
+        Released { answered, pulsed }
+    }
+
+    /// The same, of the user by or for whom a step was taken, if there was one.
+    pub(crate) fn released_of(&mut self, user: Option<User>) -> Option<Released>
+        ensures released { AreReleased (S.world_of self.old.under) (option_map (λ user. user.0) user) self.old.answers self.old.pulses result }
+        ensures under { self.new.under ≡ self.old.under }
+        ensures looking { self.new.looking ≡ self.old.looking }
+        ensures stopped { self.new.is_stopped ≡ self.old.is_stopped }
+    {
+        match user {
+            Some(user) => Some(self.released(user)),
+            None => None,
+        }
     }
 
     /// Those of a user's threads of which it came.
@@ -178,6 +228,7 @@ impl<S: UnderLock> Locked<S> {
                 came.insert(thread);
             }
         }
+        waiting.end();
         came
     }
 
@@ -192,10 +243,22 @@ impl<S: UnderLock> Locked<S> {
         self.is_stopped = true;
     }
 
-    pub fn is_stopped(&self) -> bool
-        ensures { result ≡ self.now.is_stopped }
+    /// Whether the server was stopped. Nothing else tells of that.
+    pub fn stopped(&self) -> Option<WasStopped>
+        ensures { is_some result ≡ self.now.is_stopped }
     {
-        self.is_stopped
+        if self.is_stopped {
+            Some(WasStopped::seen())
+        } else {
+            None
+        }
+    }
+
+    /// What lies under the lock, for reading.
+    pub fn under(&self) -> &S
+        ensures { result.now ≡ self.now.under }
+    {
+        &self.under
     }
 
     /// The world that the steps came to.
@@ -217,5 +280,15 @@ impl<S: UnderLock> Locked<S> {
             is_stopped: _,
         } = self;
         under
+    }
+}
+
+/// The item that a worker took, if it took one.
+fn item_taken(outcome: &Outcome) -> Option<Item>
+    ensures { result ≡ item_taken outcome.now }
+{
+    match outcome {
+        Outcome::Took(item) => Some(*item),
+        _ => None,
     }
 }

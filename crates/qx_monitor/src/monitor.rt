@@ -1,19 +1,29 @@
 //! One lock, and where threads sleep.
 
-ghost use Rattle.std.specs.Prelude.{◌≡◌, ◌&&◌, ℕ, false, is_some, true, not};
+ghost use Rattle.std.specs.Prelude.{◌≡◌, ◌≢◌, ◌&&◌, ◌⊎◌, None, Some, false, is_ok, is_some, true, not, IfErr, IfOk, MatchBool, OnErr};
+ghost use Rattle.std.specs.Sync.Mutex.{mutex_guard_value};
 ghost use Rattle.qx_types.specs.declared.names.Thread.{Thread};
-ghost use Rattle.qx_monitor.specs.Awaits.{is_to_come, looking_after, woken};
+ghost use Rattle.qx_types.specs.declared.outcome.Outcome.{Outcome};
+ghost use Rattle.qx_types.specs.declared.step.Step.{Step};
+ghost use Rattle.qx_machine.specs.Machine as machine;
+ghost use Rattle.qx_world.specs.Seats.{Works, world_then};
+ghost use Rattle.qx_world.specs.Steps.{held_work, IsStale};
+ghost use Rattle.qx_monitor.specs.Awaits.{is_to_come, is_to_come_of, looking_after, woken};
+ghost use Rattle.qx_monitor.specs.Owed.{AreReleased, IfHandled, IfSent, IfTook, IfUnsent, copied, next_item};
 ghost use Rattle.qx_monitor.specs.Waits.{is_awaited};
-ghost use Rattle.qx_monitor.specs.declared.spinner.Begun.{Begun};
+ghost use Rattle.qx_monitor.specs.declared.locked.Received.{Received};
+ghost use Rattle.qx_monitor.specs.declared.monitor.Called.{Called};
+ghost use Rattle.qx_monitor.specs.declared.monitor.Performed.{Performed};
 ghost use Rattle.qx_monitor.specs.declared.waits.Awaited.{Awaited};
 ghost use Rattle.qx_monitor.specs.declared.waits.Coming.{Coming};
 ghost use Rattle.qx_monitor.specs.declared.waits.Waiting.{Waiting};
 
-use crate::locked::Locked;
-use crate::spinner::{Begun, LOCK_TRIES, Spinner, pause};
+use crate::locked::{Locked, Received};
+use crate::owed::{Begun, Released, Short, Wake};
+use crate::spinner::{LOCK_TRIES, Spinner, pause};
 use crate::waits::{Awaited, Coming, THREADS, ThreadSet, Waiting, Woken, place_of};
-use qx_types::Thread;
-use qx_world::UnderLock;
+use qx_types::{Outcome, Request, Step, Thread, Worker};
+use qx_world::{PerformFault, UnderLock, Unstored, Work};
 use std::alloc::{AllocError, Global};
 use std::marker::Model;
 use std::sync::{Condvar, Mutex, MutexGuard, Wait};
@@ -28,6 +38,24 @@ pub struct Monitor<S: UnderLock> {
     looks: Condvar,
     /// Where clients sleep until what they wait for came.
     bells: Bells,
+}
+
+/// How a call began.
+pub enum Called {
+    /// The message was sent, and the thread waits for its answer.
+    Sent(Begun, Wake),
+    /// It was not, with this outcome.
+    Unsent(Outcome),
+    NoMemory,
+}
+
+/// What came of a worker's perform.
+pub enum Performed {
+    /// It is done, and the worker begins to wait for an item.
+    Handled(Begun),
+    /// The worker holds nothing, or something else.
+    Ended,
+    Short(Short),
 }
 
 /// A place to sleep for each thread that all users can have.
@@ -104,33 +132,27 @@ impl<S: UnderLock> Monitor<S> {
         self.locked.lock(rt)
     }
 
+    /// A worker wants memory: the same.
+    pub fn stop_for(&self, rt: &impl Wait, short: Short) {
+        short.end();
+        self.stop(rt);
+    }
+
     /// A thread begins to wait for this, under the lock.
     pub fn begin(&self, locked: &mut Locked<S>, awaited: Awaited) -> Begun
-        ensures there { result ≡ Begun.There → (not locked.old.is_stopped && is_to_come (S.world_of locked.old.under) awaited) ≡ false }
-        ensures answer { (thread : Thread) (seen : ℕ) → awaited ≡ Awaited.OfThread Coming.Answer thread → result ≡ Begun.Seen seen → is_awaited locked.new.answers thread ≡ true }
-        ensures pulse { (thread : Thread) (seen : ℕ) → awaited ≡ Awaited.OfThread Coming.Pulse thread → result ≡ Begun.Seen seen → is_awaited locked.new.pulses thread ≡ true }
+        ensures awaited { result.awaited ≡ awaited }
+        ensures there { result.seen ≡ None → (not locked.old.is_stopped && is_to_come (S.world_of locked.old.under) awaited) ≡ false }
+        ensures answer { (thread : Thread) → awaited ≡ Awaited.OfThread Coming.Answer thread → is_some result.seen ≡ true → is_awaited locked.new.answers thread ≡ true }
+        ensures pulse { (thread : Thread) → awaited ≡ Awaited.OfThread Coming.Pulse thread → is_some result.seen ≡ true → is_awaited locked.new.pulses thread ≡ true }
         ensures looking { locked.new.looking ≡ looking_after Waiting.Begins awaited locked.old.looking }
         ensures under { locked.new.under ≡ locked.old.under }
     {
-        if locked.waits_for(awaited, Waiting::Begins) {
-            Begun::Seen(self.watched(awaited).notifications())
-        } else {
-            Begun::There
-        }
-    }
-
-    /// A worker begins to wait for an item, under the lock, if it is free.
-    pub fn look(&self, locked: &mut Locked<S>, is_free: bool) -> Option<Begun>
-        ensures under { locked.new.under ≡ locked.old.under }
-        ensures looks { is_some result ≡ is_free }
-        ensures begins { is_free ≡ true → locked.new.looking ≡ looking_after Waiting.Begins Awaited.Item locked.old.looking }
-        ensures same { is_free ≡ false → locked.new ≡ locked.old }
-    {
-        if is_free {
-            Some(self.begin(locked, Awaited::Item))
+        let seen = if locked.waits_for(awaited, Waiting::Begins) {
+            Some(self.watched(awaited).notifications())
         } else {
             None
-        }
+        };
+        Begun { awaited, seen }
     }
 
     /// Takes the lock once what is awaited came, or the server was stopped. A thread that began to wait spins until then, and sleeps
@@ -139,19 +161,25 @@ impl<S: UnderLock> Monitor<S> {
         &self,
         rt: &R,
         spinner: &mut Spinner,
-        awaited: Awaited,
         begun: Begun,
-    ) -> MutexGuard<'_, Locked<S>> {
-        let (mut guard, is_late) = self.spin(rt, spinner, awaited, begun);
+    ) -> MutexGuard<'_, Locked<S>>
+        ensures { (not (mutex_guard_value result).is_stopped && is_to_come (S.world_of (mutex_guard_value result).under) begun.awaited) ≡ false }
+    {
+        let Begun { awaited, seen } = begun;
+        let (mut guard, is_late) = self.spin(rt, spinner, awaited, seen);
         if is_late {
-            let begun = self.begin(&mut guard, awaited);
+            let Begun { awaited: _, seen } = self.begin(&mut guard, awaited);
             drop(guard);
-            (guard, _) = self.spin(rt, spinner, awaited, begun);
+            (guard, _) = self.spin(rt, spinner, awaited, seen);
         }
         let bell = self.bell(awaited);
-        bell.wait_while(rt, guard, |locked| {
-            locked.waits_for(awaited, Waiting::Slept)
-        })
+        'sleeping: for _ in rt.forever() {
+            if !guard.waits_for(awaited, Waiting::Slept) {
+                return guard;
+            }
+            guard = bell.wait(rt, guard);
+        }
+        guard
     }
 
     /// A client's thread begins to wait: takes the lock once that came to it, or the server was stopped.
@@ -161,14 +189,16 @@ impl<S: UnderLock> Monitor<S> {
         spinner: &mut Spinner,
         coming: Coming,
         thread: Thread,
-    ) -> MutexGuard<'_, Locked<S>> {
-        let awaited = Awaited::OfThread(coming, thread);
+    ) -> MutexGuard<'_, Locked<S>>
+        ensures { (not (mutex_guard_value result).is_stopped && is_to_come_of (S.world_of (mutex_guard_value result).under) coming thread) ≡ false }
+    {
         let mut guard = self.lock(rt);
-        if let begun @ Begun::Seen(_) = self.begin(&mut guard, awaited) {
-            drop(guard);
-            guard = self.lock_for(rt, spinner, awaited, begun);
+        if !guard.waits_for(Awaited::OfThread(coming, thread), Waiting::Slept) {
+            return guard;
         }
-        guard
+        let begun = self.begin(&mut guard, Awaited::OfThread(coming, thread));
+        drop(guard);
+        self.lock_for(rt, spinner, begun)
     }
 
     /// Spins, and takes the lock. Whether the thread came too late: what it waits for was there, or was told of, and is there no
@@ -178,15 +208,15 @@ impl<S: UnderLock> Monitor<S> {
         rt: &R,
         spinner: &mut Spinner,
         awaited: Awaited,
-        begun: Begun,
+        seen: Option<u64>,
     ) -> (MutexGuard<'_, Locked<S>>, bool) {
-        let told = match begun {
-            Begun::There => true,
-            Begun::Seen(seen) => spinner.spin(self.watched(awaited), seen),
+        let told = match seen {
+            None => true,
+            Some(seen) => spinner.spin(self.watched(awaited), seen),
         };
         let mut guard = self.lock(rt);
         let waits = guard.waits_for(awaited, Waiting::Spun);
-        if let Begun::Seen(_) = begun {
+        if seen.is_some() {
             if told && !waits {
                 spinner.paid();
             }
@@ -194,29 +224,136 @@ impl<S: UnderLock> Monitor<S> {
         (guard, told && waits)
     }
 
+    /// A thread calls, or the step comes back. Of a call that was sent, a worker is woken, and the thread begins to wait for its
+    /// answer.
+    pub fn call(
+        &self,
+        locked: &mut Locked<S>,
+        seat: &mut S::Seat,
+        thread: Thread,
+        request: Request,
+    ) -> Called
+        ensures sent { IfSent result (λ begun wake. S.adds seat.old seat.new (Step.Call thread request) Outcome.Sent) }
+        ensures awaits { IfSent result (λ begun wake. begun.awaited ≡ Awaited.OfThread Coming.Answer thread) }
+        ensures wakes { IfSent result (λ begun wake. wake.who ≡ woken (S.world_of locked.new.under) locked.old.looking) }
+        ensures unsent { IfUnsent result (λ outcome. outcome ≢ Outcome.Sent) }
+        ensures told { IfUnsent result (λ outcome. outcome ≡ (machine.step (S.world_of locked.old.under) (Step.Call thread request)).outcome) }
+        ensures ended { IfUnsent result (λ outcome. S.adds seat.old seat.new (Step.Call thread request) outcome) }
+        ensures kept { result ≡ Called.NoMemory → S.keeps seat.old seat.new }
+    {
+        match locked.under.take(seat, Step::Call { thread, request }) {
+            Ok(outcome) => {
+                if !is_sent(&outcome) {
+                    return Called::Unsent(outcome);
+                }
+                let wake = self.woken(locked);
+                let begun = self.begin(locked, Awaited::OfThread(Coming::Answer, thread));
+                Called::Sent(begun, wake)
+            }
+            Err(_) => Called::NoMemory,
+        }
+    }
+
+    /// A step is taken, or comes back; with which clients of the user to wake whose step it is, and which worker.
+    pub fn take(
+        &self,
+        locked: &mut Locked<S>,
+        seat: &mut S::Seat,
+        step: Step,
+    ) -> (Result<Outcome, Unstored>, Option<Released>, Wake)
+        ensures seat { IfOk result.0 (λ outcome. S.adds seat.old seat.new step outcome) }
+        ensures kept { OnErr result.0 (S.keeps seat.old seat.new) }
+        ensures handed_back { IfErr result.0 (λ unstored. unstored.step ≡ step) }
+        ensures world { S.world_of locked.new.under ≡ world_then (S.world_of locked.old.under) step (is_ok result.0) }
+        ensures released { AreReleased (S.world_of locked.new.under) (machine.owner (S.world_of locked.old.under) step) locked.old.answers locked.old.pulses result.1 }
+        ensures wakes { result.2.who ≡ woken (S.world_of locked.new.under) locked.old.looking }
+    {
+        let user = locked.world().owner(&step);
+        let result = locked.under.take(seat, step);
+        let released = locked.released_of(user);
+        let wake = self.woken(locked);
+        (result, released, wake)
+    }
+
+    /// A worker receives the first item of the line that is next; with which worker to wake, where another item stands in a line.
+    pub fn receive(
+        &self,
+        locked: &mut Locked<S>,
+        seat: &mut S::Seat,
+        worker: Worker,
+    ) -> (Received, Wake)
+        ensures seat { Works S.adds S.keeps worker.0 seat.old seat.new }
+        ensures took { IfTook result.0 (λ item held. next_item (S.world_of locked.old.under) worker (S.next_of locked.old.under) ≡ Some item) }
+        ensures copy { IfTook result.0 (λ item held. held_work (S.world_of locked.new.under) worker.0 ≡ Some (copied held)) }
+        ensures ended { result.0 ≡ Received.Ended → (next_item (S.world_of locked.old.under) worker (S.next_of locked.old.under) ≡ None) ⊎ (held_work (S.world_of locked.new.under) worker.0 ≡ None) }
+        ensures wakes { result.1.who ≡ woken (S.world_of locked.new.under) locked.old.looking }
+    {
+        let received = locked.receive(seat, worker);
+        let wake = self.woken(locked);
+        (received, wake)
+    }
+
+    /// A worker does what it holds, if that is the work at hand; with which clients of the user to wake for whom that is. It begins
+    /// to wait for an item then.
+    pub fn perform(
+        &self,
+        locked: &mut Locked<S>,
+        seat: &mut S::Seat,
+        worker: Worker,
+        work: &Work,
+        moment: u64,
+    ) -> (Performed, Option<Released>)
+        ensures seat { Works S.adds S.keeps worker.0 seat.old seat.new }
+        ensures handled { IfHandled result.0 (λ begun. (machine.step (S.world_of locked.old.under) (Step.Perform worker moment)).outcome ≡ Outcome.Handled) }
+        ensures awaits { IfHandled result.0 (λ begun. begun.awaited ≡ Awaited.Item) }
+        ensures ended { result.0 ≡ Performed.Ended → ((machine.step (S.world_of locked.old.under) (Step.Perform worker moment)).outcome ≢ Outcome.Handled) ⊎ IsStale (held_work (S.world_of locked.old.under) worker.0) work.now }
+        ensures released { AreReleased (S.world_of locked.new.under) (machine.owner (S.world_of locked.old.under) (Step.Perform worker moment)) locked.old.answers locked.old.pulses result.1 }
+    {
+        let user = locked.world().owner(&Step::Perform { worker, moment });
+        let done = locked.under.perform(seat, worker, work, moment);
+        let released = locked.released_of(user);
+        match done {
+            Ok(outcome) => {
+                if !is_handled(&outcome) {
+                    return (Performed::Ended, released);
+                }
+                let begun = self.begin(locked, Awaited::Item);
+                (Performed::Handled(begun), released)
+            }
+            Err(PerformFault::Stale) => (Performed::Ended, released),
+            Err(PerformFault::NoMemory) => (Performed::Short(Short::new()), released),
+        }
+    }
+
     /// Which worker is woken as the lock is let go. One that looks for an item is told so under the lock: told later it might have
     /// begun to look for the next one.
-    pub fn woken(&self, locked: &Locked<S>) -> Woken
-        ensures { result ≡ woken (S.world_of locked.now.under) locked.now.looking }
+    fn woken(&self, locked: &Locked<S>) -> Wake
+        ensures { result.who ≡ woken (S.world_of locked.now.under) locked.now.looking }
     {
-        let woken = locked.woken();
-        if let Woken::Looking = woken {
+        let who = locked.woken();
+        if let Woken::Looking = who {
             self.looks.notify_one();
         }
-        woken
+        Wake { who }
     }
 
     /// Wakes a worker that sleeps, where one is to be woken.
-    pub fn wake_worker(&self, woken: Woken) {
-        if let Woken::Sleeping = woken {
+    pub fn wake_worker(&self, wake: Wake) {
+        let Wake { who } = wake;
+        if let Woken::Sleeping = who {
             self.items.notify_one();
         }
     }
 
-    /// Wakes the clients that wait for these threads.
-    pub fn wake_clients(&self, (answered, pulsed): (ThreadSet, ThreadSet)) {
-        self.ring(answered);
-        self.ring(pulsed);
+    /// Wakes the clients that wait for these threads, if there are any.
+    pub fn wake_clients(&self, released: Option<Released>) {
+        match released {
+            Some(Released { answered, pulsed }) => {
+                self.ring(answered);
+                self.ring(pulsed);
+            }
+            None => {}
+        }
     }
 
     /// Wakes who sleeps at the bells of these threads.
@@ -224,6 +361,7 @@ impl<S: UnderLock> Monitor<S> {
         'waking: while let Some(thread) = threads.pop() {
             self.bells.each[place_of(thread)].notify_all();
         }
+        threads.end();
     }
 
     /// What a thread watches that spins for this.
@@ -241,4 +379,18 @@ impl<S: UnderLock> Monitor<S> {
             Awaited::OfThread(_, thread) => &self.bells.each[place_of(thread)],
         }
     }
+}
+
+/// Whether a call's message was sent.
+fn is_sent(outcome: &Outcome) -> bool
+    ensures { MatchBool result (outcome.now ≡ Outcome.Sent) (outcome.now ≢ Outcome.Sent) }
+{
+    matches!(outcome, Outcome::Sent)
+}
+
+/// Whether an item was done.
+fn is_handled(outcome: &Outcome) -> bool
+    ensures { MatchBool result (outcome.now ≡ Outcome.Handled) (outcome.now ≢ Outcome.Handled) }
+{
+    matches!(outcome, Outcome::Handled)
 }

@@ -16,15 +16,6 @@ const TRIAL: u32 = 64;
 /// So often a thread asks for a lock before it sleeps, some 8 microseconds long.
 pub(crate) const LOCK_TRIES: u32 = 64;
 
-/// How a wait began, as was seen under the lock.
-#[derive(Clone, Copy)]
-pub enum Begun {
-    /// What is awaited was there, or the server stopped.
-    There,
-    /// It wasn't, after so many notifications.
-    Seen(u64),
-}
-
 /// Whether a thread spins before it sleeps. Where what it waits for comes within the spin, as by a thread on another
 /// processor, neither has to ask the kernel; where it doesn't, as on one processor, or where another thread takes it first,
 /// the time is lost. So it spins as long as that pays.

@@ -44,7 +44,7 @@ pub(crate) enum Waiting {
 
 /// Which worker is woken as the lock is let go.
 #[derive(Clone, Copy, Debug, PartialEq, Eq)]
-pub enum Woken {
+pub(crate) enum Woken {
     /// None, as no item stands in a line.
     Nobody,
     /// One that looks for an item, and doesn't sleep.
@@ -53,8 +53,7 @@ pub enum Woken {
     Sleeping,
 }
 
-/// Some threads of one user.
-#[derive(Clone, Copy, Debug, PartialEq, Eq)]
+/// Some threads of one user. It can't be let fall: `end` takes it once it is empty.
 pub struct ThreadSet {
     user: User,
     /// For each thread the bit of its number.
@@ -143,6 +142,7 @@ impl ThreadSet {
         ensures others { IfSome result (λ thread. (other : Thread) → IsPossible other → other ≢ thread → is_in self.new other ≡ is_in self.old other) }
         ensures none { IfNone result ((thread : Thread) → is_in self.old thread ≡ false) }
         ensures same { IfNone result (self.new ≡ self.old) }
+        ensures ended { IfNone result (self.new.bits ≡ 0) }
         ensures fewer { IsSome result → self.new.bits < self.old.bits }
     {
         if self.bits == 0 {
@@ -151,6 +151,13 @@ impl ThreadSet {
         let number = self.bits.trailing_zeros() as usize;
         self.bits &= !(1 << number);
         Some(thread_of(self.user, number))
+    }
+
+    /// All threads have left.
+    pub(crate) fn end(self)
+        requires { self.bits ≡ 0 }
+    {
+        let ThreadSet { user: _, bits: _ } = self;
     }
 }
 
@@ -180,8 +187,8 @@ impl Waits {
     }
 
     /// Clients wait for these threads no longer.
-    pub(crate) fn remove(&mut self, threads: ThreadSet)
-        ensures { (thread : Thread) → is_awaited self.new thread ≡ (is_awaited self.old thread && not (is_in threads thread)) }
+    pub(crate) fn remove(&mut self, threads: &ThreadSet)
+        ensures { (thread : Thread) → is_awaited self.new thread ≡ (is_awaited self.old thread && not (is_in threads.now thread)) }
     {
         self.words[usize::from(threads.user.0)] &= !threads.bits;
     }

@@ -1,5 +1,5 @@
 -- How a call, and the waiting for a pulse, end at a seat of any server.
-use Rattle.std.proofs.Common.{◌≡◌, ◌≢◌, true, false, inl, inr, refl, sym, subst}
+use Rattle.std.proofs.Common.{◌≡◌, ◌≢◌, ◌&&◌, Bool, true, false, not, inl, inr, refl, sym, subst}
 use Rattle.std.proofs.lemmas.Bool.{false≢true}
 use Rattle.qx_types.specs.declared.names.Proc.{Proc}
 use Rattle.qx_types.specs.declared.names.Thread.{Thread}
@@ -14,6 +14,11 @@ use Rattle.qx_pool.specs.Ends.{CallAdds, PulseAdds}
 use Rattle.qx_world.specs.Outcomes.{may_be_pulse, may_be_taken, may_end_call}
 use Rattle.qx_pool.specs.Outcomes.{call_end, pulse_end}
 use Rattle.qx_world.proofs.OutcomeLemmas.{step_gives}
+
+-- at a server that was not stopped, what was awaited is no longer to come
+pub has_come : (stopped to_come : Bool) → stopped ≡ false → (not stopped && to_come) ≡ false → to_come ≡ false
+has_come true to_come going over = absurd (false≢true (sym going))
+has_come false to_come going over = over
 
 module _ {Seat : Type 0} (adds : Seat → Seat → Step → Outcome → Type 0) (keeps : Seat → Seat → Type 0) where
   unsent : (thread : Thread) (request : Request) (old new : Seat) (given : Outcome) → may_end_call given ≡ true → given ≢ outcome.Sent → adds old new (Call thread request) given

@@ -1,15 +1,15 @@
 //! A client: a thread of a process that calls, and who takes other steps of clients.
 
-ghost use Rattle.std.specs.Prelude.{◌≡◌, ◌≢◌, true, IfErr, IfOk, MatchBool, OnErr};
+ghost use Rattle.std.specs.Prelude.{◌≡◌, true, IfErr, IfOk};
 ghost use Rattle.qx_types.specs.Step.{is_client_step};
-ghost use Rattle.qx_types.specs.declared.outcome.Outcome.{Outcome};
-ghost use Rattle.qx_pool.specs.Ends.{CallAdds, PulseAdds};
+ghost use Rattle.qx_pool.specs.Ends.{CallAdds, PulseAdds, StepKeeps};
+ghost use Rattle.qx_pool.specs.Outcomes.{step_of};
 
-use crate::ends::{CallEnd, PulseEnd, call_end, pulse_end};
+use crate::ends::{CallEnd, PulseEnd, StepFault, call_end, pulse_end};
 use crate::server::ServerOf;
-use qx_monitor::{Awaited, Coming, Spinner};
+use qx_monitor::{Called, Coming, Spinner};
 use qx_types::{Outcome, Request, Step, Thread};
-use qx_world::{UnderLock, Unstored};
+use qx_world::UnderLock;
 use std::sync::Wait;
 
 /// A thread of a process, at a seat of a server.
@@ -53,28 +53,23 @@ impl<S: UnderLock> ClientOf<S> {
     {
         let (monitor, thread) = (&server.monitor, self.thread);
         let mut guard = monitor.lock(rt);
-        if guard.is_stopped() {
-            return CallEnd::Stopped;
+        if let Some(stopped) = guard.stopped() {
+            return CallEnd::Stopped(stopped);
         }
-        let called = guard
-            .under
-            .take(&mut self.seat, Step::Call { thread, request });
-        let Ok(outcome) = called else {
-            return CallEnd::NoMemory;
+        let (begun, wake) = match monitor.call(&mut guard, &mut self.seat, thread, request) {
+            Called::Sent(begun, wake) => (begun, wake),
+            Called::Unsent(outcome) => return call_end(outcome),
+            Called::NoMemory => return CallEnd::NoMemory,
         };
-        if !is_sent(&outcome) {
-            return call_end(outcome);
-        }
-        let woken = monitor.woken(&guard);
-        let answer = Awaited::OfThread(Coming::Answer, thread);
-        let begun = monitor.begin(&mut guard, answer);
         drop(guard);
-        monitor.wake_worker(woken);
-        let mut guard = monitor.lock_for(rt, &mut self.spinner, answer, begun);
-        if guard.world().blocked(thread) {
-            return CallEnd::Stopped;
+        monitor.wake_worker(wake);
+        let mut guard = monitor.lock_for(rt, &mut self.spinner, begun);
+        if let Some(stopped) = guard.stopped() {
+            if guard.world().blocked(thread) {
+                return CallEnd::Stopped(stopped);
+            }
         }
-        match guard.under.take(&mut self.seat, Step::TakeReply { thread }) {
+        match guard.take_reply(&mut self.seat, thread) {
             Ok(outcome) => call_end(outcome),
             Err(_) => CallEnd::NoMemory,
         }
@@ -89,46 +84,41 @@ impl<S: UnderLock> ClientOf<S> {
         let first = Thread { proc, tid: 1 };
         let monitor = &server.monitor;
         let mut guard = monitor.lock_for_thread(rt, &mut self.spinner, Coming::Pulse, first);
-        if guard.is_stopped() || guard.world().lacks_pulse(proc) {
-            return PulseEnd::Stopped;
+        if let Some(stopped) = guard.stopped() {
+            return PulseEnd::Stopped(stopped);
         }
-        match guard.under.take(&mut self.seat, Step::TakePulse { proc }) {
+        match guard.take_pulse(&mut self.seat, proc) {
             Ok(outcome) => pulse_end(&outcome),
             Err(_) => PulseEnd::NoMemory,
         }
     }
 
-    /// Takes one step of any client, and gives its outcome; or hands it back for want of memory. It waits for the lock alone.
+    /// Takes one step of any client, and gives its outcome; or hands it back where the server was stopped, or memory is short. It
+    /// waits for the lock alone.
     pub fn step(
         &mut self,
         rt: &impl Wait,
         server: &ServerOf<S>,
         step: Step,
-    ) -> Result<Outcome, Unstored>
+    ) -> Result<Outcome, StepFault>
         requires client { is_client_step step ≡ true }
         ensures seat { IfOk result (λ outcome. S.adds self.old.seat self.new.seat step outcome) }
-        ensures kept { OnErr result (S.keeps self.old.seat self.new.seat) }
-        ensures handed_back { IfErr result (λ unstored. unstored.step ≡ step) }
+        ensures kept { IfErr result (λ fault. StepKeeps S.keeps self.old.seat self.new.seat fault) }
+        ensures handed_back { IfErr result (λ fault. step_of fault ≡ step) }
         ensures thread { self.new.thread ≡ self.old.thread }
     {
-        let user = step.actor().map(|actor| actor.user());
         let monitor = &server.monitor;
         let mut guard = monitor.lock(rt);
-        let result = guard.under.take(&mut self.seat, step);
-        let released = user.map(|user| guard.released(user));
-        let woken = monitor.woken(&guard);
-        drop(guard);
-        if let Some(released) = released {
-            monitor.wake_clients(released);
+        if let Some(stopped) = guard.stopped() {
+            return Err(StepFault::Stopped(step, stopped));
         }
-        monitor.wake_worker(woken);
-        result
+        let (result, released, wake) = monitor.take(&mut guard, &mut self.seat, step);
+        drop(guard);
+        monitor.wake_clients(released);
+        monitor.wake_worker(wake);
+        match result {
+            Ok(outcome) => Ok(outcome),
+            Err(unstored) => Err(StepFault::NoMemory(unstored.step)),
+        }
     }
-}
-
-/// Whether a call's message was sent.
-fn is_sent(outcome: &Outcome) -> bool
-    ensures { MatchBool result (outcome.now ≡ Outcome.Sent) (outcome.now ≢ Outcome.Sent) }
-{
-    matches!(outcome, Outcome::Sent)
 }

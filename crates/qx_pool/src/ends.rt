@@ -1,9 +1,10 @@
 //! How a call, and the waiting for a pulse, ended at a server, as the last outcome tells it.
 
 ghost use Rattle.std.specs.Prelude.{◌≡◌};
-ghost use Rattle.qx_pool.specs.Outcomes.{call_end, pulse_end};
+ghost use Rattle.qx_pool.specs.Outcomes.{call_end, pulse_end, step_of};
 
-use qx_types::{Errno, MessageBytes, Outcome};
+use qx_monitor::WasStopped;
+use qx_types::{Errno, MessageBytes, Outcome, Step};
 
 /// How a call ended.
 #[derive(Debug, Drop, PartialEq, Eq)]
@@ -17,7 +18,7 @@ pub enum CallEnd {
     /// The thread is not there or not ready; or its process ended, or its answer was taken, while the client waited.
     WrongState,
     /// The server was stopped. A message that was sent stands where it stood.
-    Stopped,
+    Stopped(WasStopped),
     /// Memory was short, for the call or for its answer, which the thread then has still.
     NoMemory,
 }
@@ -30,9 +31,29 @@ pub enum PulseEnd {
     /// The process is not there, or has ended.
     WrongState,
     /// The server was stopped. A pulse that comes later is left.
-    Stopped,
+    Stopped(WasStopped),
     /// Memory was short. The process has its pulse still.
     NoMemory,
+}
+
+/// Why a step was not taken, with the step.
+#[derive(Debug, Drop)]
+pub enum StepFault {
+    /// The server was stopped.
+    Stopped(Step, WasStopped),
+    /// Memory was short.
+    NoMemory(Step),
+}
+
+impl StepFault {
+    /// The step that was not taken.
+    pub fn into_step(self) -> Step
+        ensures { result ≡ step_of self }
+    {
+        match self {
+            StepFault::Stopped(step, _) | StepFault::NoMemory(step) => step,
+        }
+    }
 }
 
 /// The end of a call that was not sent, or whose answer was taken.

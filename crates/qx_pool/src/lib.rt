@@ -5,7 +5,7 @@
 //! - `client.rt`: `ClientOf`, who calls, waits for pulses and takes other steps
 //! - `pool.rt`: `Server`, whose steps are stored, with its seats, and its `Client`
 //! - `ending.rt`: its end
-//! - `ends.rt`: how a call, and the waiting for a pulse, ended
+//! - `ends.rt`: how a call, and the waiting for a pulse, ended; why a step was not taken
 //! - `service.rt`: `Service`, which runs on with no stored steps, and its `ServiceClient`
 //! - `tied.rt`: `TiedService`, at whose seats it is known what was done there, and its `TiedClient`
 //!
@@ -24,8 +24,9 @@ pub mod worker;
 
 pub use client::ClientOf;
 pub use ending::{FinishFault, finish};
-pub use ends::{CallEnd, PulseEnd};
+pub use ends::{CallEnd, PulseEnd, StepFault};
 pub use pool::{Client, Server};
+pub use qx_monitor::WasStopped;
 pub use qx_storing::{Note, Seat};
 pub use qx_tied::{Event, OfRun, Opened};
 pub use qx_world::UnderLock;

@@ -35,7 +35,7 @@ impl Service {
     pub fn recent(&self, rt: &impl Wait, from: u64) -> Result<Piece, AllocError>
         ensures { IfOk result (λ piece. (now : Now) × IsOfRun now × IsPiece now from piece) }
     {
-        self.monitor.lock(rt).under.recent(from)
+        self.monitor.lock(rt).under().recent(from)
     }
 
     /// The world, once all threads have left. A server that is made of it goes on with what workers hold.

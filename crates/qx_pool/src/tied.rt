@@ -48,14 +48,14 @@ impl<J: OfRun> TiedService<J> {
     pub fn recent(&self, rt: &impl Wait, from: u64) -> Result<Piece, AllocError>
         ensures { IfOk result (λ piece. (tied : TiedRun) × IsRunFrom J.began tied × IsPiece tied.run from piece) }
     {
-        self.monitor.lock(rt).under.recent(from)
+        self.monitor.lock(rt).under().recent(from)
     }
 
     /// Whether a seat knows all that was done there so far. Then that is all of the run's own entries of the seat.
     pub fn holds(&self, rt: &impl Wait, seat: &Seat<J>) -> bool
         ensures { result ≡ true → (tied : TiedRun) × IsRunFrom J.began tied × (own_from seat.now.seat J.began tied.steps ≡ done_at J.began seat.now) }
     {
-        self.monitor.lock(rt).under.holds(seat)
+        self.monitor.lock(rt).under().holds(seat)
     }
 
     /// The world, once all threads have left.

@@ -1,12 +1,14 @@
 //! The loop of a worker.
 
+ghost use Rattle.std.specs.Prelude.{◌≡◌};
+ghost use Rattle.qx_monitor.specs.Owed.{copied};
 ghost use Rattle.qx_world.specs.Seats.{Works};
 
 use crate::server::ServerOf;
-use qx_monitor::{Awaited, Begun, HeldCopy, Monitor, Spinner};
-use qx_types::{Item, Outcome, Worker};
+use qx_monitor::{Awaited, Begun, HeldCopy, Monitor, Performed, Received, Spinner};
+use qx_types::{Item, Worker};
 use qx_wire::Parsed;
-use qx_world::{PerformFault, UnderLock, Work};
+use qx_world::{UnderLock, Work};
 use std::sync::Wait;
 
 /// What a worker does between the receiving of an item and its performing. It holds no lock then.
@@ -50,6 +52,7 @@ pub fn worker_loop<S: UnderLock, G: Gate, C: Clock, R: Wait>(
         };
         begun = next;
     }
+    drop(monitor.lock_for(rt, &mut spinner, begun));
     seat
 }
 
@@ -65,19 +68,18 @@ fn resume<S: UnderLock, C: Clock, R: Wait>(
     ensures { Works S.adds S.keeps worker.0 seat.old seat.new }
 {
     let mut guard = monitor.lock(rt);
-    let is_worker = guard.is_worker(worker);
-    let held = guard.held(worker);
-    let is_free = is_worker && matches!(held, Ok(None));
-    let begun = monitor.look(&mut guard, is_free);
-    drop(guard);
-    if !is_worker {
+    if !guard.is_worker(worker) {
         return None;
     }
-    match held {
-        Ok(Some(held)) => perform(rt, monitor, seat, worker, decoded(held), clock),
-        Ok(None) => begun,
-        Err(_) => {
-            monitor.stop(rt);
+    match guard.held(worker) {
+        Ok(Some(held)) => {
+            drop(guard);
+            perform(rt, monitor, seat, worker, decoded(held), clock)
+        }
+        Ok(None) => Some(monitor.begin(&mut guard, Awaited::Item)),
+        Err(short) => {
+            drop(guard);
+            monitor.stop_for(rt, short);
             None
         }
     }
@@ -95,16 +97,15 @@ fn receive<S: UnderLock, R: Wait>(
 ) -> Option<(Item, HeldCopy)>
     ensures { Works S.adds S.keeps worker.0 seat.old seat.new }
 {
-    let mut guard = monitor.lock_for(rt, spinner, Awaited::Item, begun);
-    let manager = guard.under.next_manager()?;
-    let received = guard.receive(seat, worker, manager);
-    let woken = monitor.woken(&guard);
+    let mut guard = monitor.lock_for(rt, spinner, begun);
+    let (received, wake) = monitor.receive(&mut guard, seat, worker);
     drop(guard);
-    monitor.wake_worker(woken);
+    monitor.wake_worker(wake);
     match received {
-        Ok(received) => received,
-        Err(_) => {
-            monitor.stop(rt);
+        Received::Took(item, held) => Some((item, held)),
+        Received::Ended => None,
+        Received::Short(short) => {
+            monitor.stop_for(rt, short);
             None
         }
     }
@@ -123,27 +124,23 @@ fn perform<S: UnderLock, C: Clock, R: Wait>(
 {
     let moment = clock.moment();
     let mut guard = monitor.lock(rt);
-    let user = guard.user_of_work(worker);
-    let done = guard.under.perform(seat, worker, &work, moment);
-    let released = user.map(|user| guard.released(user));
-    let is_done = matches!(done, Ok(Outcome::Handled));
-    let begun = monitor.look(&mut guard, is_done);
+    let (performed, released) = monitor.perform(&mut guard, seat, worker, &work, moment);
     drop(guard);
-    if let Some(released) = released {
-        monitor.wake_clients(released);
-    }
-    match done {
-        Ok(Outcome::Handled) => begun,
-        Err(PerformFault::NoMemory) => {
-            monitor.stop(rt);
+    monitor.wake_clients(released);
+    match performed {
+        Performed::Handled(begun) => Some(begun),
+        Performed::Ended => None,
+        Performed::Short(short) => {
+            monitor.stop_for(rt, short);
             None
         }
-        _ => None,
     }
 }
 
 /// What the copy means.
-fn decoded(held: HeldCopy) -> Work {
+fn decoded(held: HeldCopy) -> Work
+    ensures { result ≡ copied held }
+{
     match held {
         HeldCopy::Message(bytes) => Work::Message(Parsed::read(bytes)),
         HeldCopy::Pulse => Work::Pulse,

@@ -7,11 +7,14 @@ use qx_types::{Manager, Outcome, Step, Worker};
 use qx_world::{PerformFault, UnderLock, Unstored, Work, World};
 
 impl UnderLock for Running {
+    ghost use Rattle.qx_running.specs.Running.{next_manager};
     ghost use Rattle.qx_running.specs.Told.{IsTold};
 
     type Seat = ();
 
     ghost world_of = { λ running. running.world };
+
+    ghost next_of = { λ running. next_manager running.world running.turns };
 
     ghost adds = { λ old new step outcome. IsTold step outcome };
 

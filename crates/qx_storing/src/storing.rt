@@ -137,12 +137,15 @@ impl<L: Ledger> Storing<L> {
 }
 
 impl<L: Ledger> UnderLock for Storing<L> {
+    ghost use Rattle.qx_machine.specs.Reads.{next_manager};
     ghost use Rattle.qx_world.specs.Trace.{run_of};
     ghost use Rattle.qx_storing.specs.Notes.{AddsNone, AddsOne};
 
     type Seat = Seat<L>;
 
     ghost world_of = { λ storing. (run_of storing.traced).world };
+
+    ghost next_of = { λ storing. next_manager (run_of storing.traced).world };
 
     ghost adds = { λ old new step outcome. AddsOne old.notes.items new.notes.items step outcome };
 

@@ -6,11 +6,14 @@ use qx_types::{Manager, Outcome, Step, Worker};
 use qx_world::{PerformFault, UnderLock, Unstored, Work, World};
 
 impl<J: OfRun> UnderLock for Tied<J> {
+    ghost use Rattle.qx_running.specs.Running.{next_manager};
     ghost use Rattle.qx_tied.specs.Tied.{AddsEntry, AddsNone};
 
     type Seat = Seat<J>;
 
     ghost world_of = { λ tied. tied.run.world };
+
+    ghost next_of = { λ tied. next_manager tied.run.world tied.run.turns };
 
     ghost adds = { λ old new step outcome. AddsEntry J.began old new step outcome };
 

@@ -14,7 +14,8 @@ use qx_types::{Manager, Outcome, Step, Worker};
 
 /// A world in which threads take steps, each thread at a seat.
 pub trait UnderLock: Drop {
-    ghost use Rattle.std.specs.Prelude.{ℕ};
+    ghost use Rattle.std.specs.Prelude.{ℕ, Option};
+    ghost use Rattle.qx_types.specs.declared.names.Manager.{Manager};
     ghost use Rattle.qx_types.specs.declared.outcome.Outcome.{Outcome};
     ghost use Rattle.qx_types.specs.declared.step.Step.{Step};
     ghost use Rattle.qx_machine.specs.Machine.{World};
@@ -24,6 +25,9 @@ pub trait UnderLock: Drop {
 
     /// The world.
     ghost world_of: { Self → World };
+
+    /// The manager whose line a worker serves next.
+    ghost next_of: { Self → Option Manager };
 
     /// What a step that was taken does at a seat, with its outcome.
     ghost adds: { Self.Seat → Self.Seat → Step → Outcome → Type 0 };
@@ -58,7 +62,8 @@ pub trait UnderLock: Drop {
 
     /// The manager whose line a worker serves next; none where all lines are empty.
     fn next_manager(&self) -> Option<Manager>
-        ensures { is_some result ≡ is_some (next_manager (world_of self.now)) };
+        ensures next { result ≡ next_of self.now }
+        ensures some { is_some result ≡ is_some (next_manager (world_of self.now)) };
 
     /// The world, for reading.
     fn world(&self) -> &World

@@ -49,9 +49,7 @@ fn each_request_refused(rt: HostRuntime) {
     let workers = ["work 1\nstat ann.1.1 /ann", "work 2\nstat ann.1.1 /ann"];
     for on in BOTH {
         if let Ok(ran) = run(&rt, rt.alloc(), on, users, None, &[ANN, BOB], &workers) {
-            assert!(rt;
-                ran.has_ended(2, &[CallEnd::Stopped]) && ran.has_ended(3, &[CallEnd::Stopped])
-            );
+            assert!(rt; ran.was_stopped(2) && ran.was_stopped(3));
         }
     }
 }
@@ -77,8 +75,8 @@ fn is_taken_at_last<L: Ledger>(
         }
         match client.step(rt, server, step) {
             Ok(_) => Some(()),
-            Err(unstored) => {
-                next = Some(unstored.step);
+            Err(fault) => {
+                next = Some(fault.into_step());
                 None
             }
         }

@@ -30,6 +30,11 @@ const FIRST: Item = Item::Message(Thread { proc: PROC, tid: 1 });
 
 const SECOND: Item = Item::Message(Thread { proc: PROC, tid: 2 });
 
+/// A call was told that the server was stopped, as it is printed.
+const STOPPED: &str = "[Stopped(WasStopped(()))]";
+
+const STOPPED_TWICE: &str = "[Stopped(WasStopped(())), Stopped(WasStopped(()))]";
+
 /// Calls whose answers tell no moment.
 const CALLS: &str = "\
     spawn ann 1 10\n\
@@ -202,8 +207,8 @@ const ROWS: [Row; 15] = [
         ],
         workers: &["work 1"],
         wanted: &[
-            Wanted::Ended(1, "[Stopped, Stopped]"),
-            Wanted::Ended(2, "[Stopped]"),
+            Wanted::Ended(1, STOPPED_TWICE),
+            Wanted::Ended(2, STOPPED),
             Wanted::Received(ANN, "ann spawned 1\nann.1.1 sent\n"),
             Wanted::Answered(ANN),
             Wanted::Answered(User(2)),
@@ -219,7 +224,7 @@ const ROWS: [Row; 15] = [
         ],
         workers: &[],
         wanted: &[
-            Wanted::Ended(1, "[Stopped]"),
+            Wanted::Ended(1, STOPPED),
             Wanted::Blocked(ANN),
             Wanted::Waiting { ram: 1, pipe: 0 },
         ],
@@ -241,8 +246,8 @@ const ROWS: [Row; 15] = [
         ],
         workers: &["await 3\nwork 1"],
         wanted: &[
-            Wanted::Ended(1, "[Stopped]"),
-            Wanted::Ended(2, "[Stopped]"),
+            Wanted::Ended(1, STOPPED),
+            Wanted::Ended(2, STOPPED),
             Wanted::Answered(ANN),
             Wanted::Answered(User(2)),
             Wanted::Waiting { ram: 0, pipe: 0 },

@@ -3,7 +3,7 @@
 use crate::acts::{Act, Signals, read};
 use crate::servers::{On, serve, serve_on};
 use qx_play::text::{push_outcome, push_transcript};
-use qx_pool::{CallEnd, ClientOf, Note, Seat, ServerOf, UnderLock, worker_loop};
+use qx_pool::{CallEnd, ClientOf, Note, Seat, ServerOf, StepFault, UnderLock, worker_loop};
 use qx_script::{Script, parse};
 use qx_types::{Item, Manager, NoMemory, Outcome, Proc, Step, Thread, User};
 use qx_world::Traced;
@@ -74,7 +74,7 @@ pub(crate) fn thread(user: User, tid: u8) -> Thread {
 
 /// Whether a call ended with what its last step told, unless it ended early.
 fn is_told(end: &CallEnd, notes: &[Note]) -> bool {
-    if matches!(end, CallEnd::Stopped | CallEnd::NoMemory) {
+    if matches!(end, CallEnd::Stopped(_) | CallEnd::NoMemory) {
         return true;
     }
     let Some(note) = notes.last() else {
@@ -91,14 +91,18 @@ fn is_told(end: &CallEnd, notes: &[Note]) -> bool {
     }
 }
 
-/// Takes a step, if it is a client's. Whether it was `WrongState`.
+/// Takes a step, if it is a client's. Whether it was `WrongState`, or the server was stopped.
 fn take<S: UnderLock>(
     rt: &impl Wait,
     server: &ServerOf<S>,
     client: &mut ClientOf<S>,
     step: Step,
 ) -> bool {
-    step.is_client() && matches!(client.step(rt, server, step), Ok(Outcome::WrongState))
+    step.is_client()
+        && matches!(
+            client.step(rt, server, step),
+            Ok(Outcome::WrongState) | Err(StepFault::Stopped(..))
+        )
 }
 
 /// Does all that a thread is to do at its seat, and tells how its calls ended.
@@ -245,10 +249,10 @@ impl Ran {
         self.traced.as_ref().expect(rt, "a trace")
     }
 
-    /// Whether the calls of a thread ended so.
-    pub(crate) fn has_ended(&self, place: usize, ends: &[CallEnd]) -> bool {
+    /// Whether a thread made one call, which was told that the server was stopped.
+    pub(crate) fn was_stopped(&self, place: usize) -> bool {
         match self.ends.get(place) {
-            Some(ended) => ended.as_slice() == ends,
+            Some(ended) => matches!(ended.as_slice(), [CallEnd::Stopped(_)]),
             None => false,
         }
     }

@@ -3,4 +3,4 @@ use Rattle.qx_monitor.proofs.WaitLemmas.{waits_no_longer}
 use Rattle.qx_monitor.proofs.waits.Waits.remove.Goals as goal
 
 pub returns : goal.returns
-returns c = λ thread. rw c.from.ensures (waits_no_longer c.args.self.now.words c.args.threads.user.0 c.args.threads.bits (omega arith) (omega arith) thread)
+returns c = λ thread. rw c.from.ensures (waits_no_longer c.args.self.now.words c.args.threads.now.user.0 c.args.threads.now.bits (omega arith) (omega arith) thread)
