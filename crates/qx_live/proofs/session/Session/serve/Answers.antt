@@ -1,5 +1,4 @@
-use Rattle.std.proofs.Common.{rules, ◌≡◌, ◌∙◌, None, ap, sym}
-use Rattle.std.proofs.lemmas.Bool.{eqb-true}
+use Rattle.std.proofs.Common.{rules, ◌≡◌, ◌∙◌, None, ap, arith, sym}
 use Rattle.qx_machine.specs.Reads.{next_manager}
 use Rattle.qx_live.specs.Live.{after_steps}
 use Rattle.qx_live.specs.Sessions.{due_steps, session_of}
@@ -9,7 +8,7 @@ use Rattle.qx_live.proofs.session.Session.serve.Goals as goal
 pub returns-then-left-eq0-clause-same : goal.returns-then-left-eq0-clause-same
 returns-then-left-eq0-clause-same c =
     let session = session_of c.args.self.now in
-    let none : c.args.left ≡ 0 = eqb-true c.args.left 0 c.if-left-eq0.true in
+    let none : c.args.left ≡ 0 = omega arith in
     rounds_over session c.args.user.0 c.args.moment
     ∙ (ap (λ n. Served c.args.user.0 c.args.moment n session) (sym none) ∙ ap (λ due. after_steps session (due_steps due session.world)) (sym c.requires))
 
