@@ -2,4 +2,3 @@ pub mod PlayedSteps
 pub mod Rounds
 pub mod Serving
 pub mod Shown
-pub mod Weights

@@ -7,11 +7,13 @@ use Rattle.qx_types.specs.declared.names.Manager.{Manager}
 use Rattle.qx_types.specs.declared.names.Thread.{Thread}
 use Rattle.qx_types.specs.declared.step.Step.{Step}
 use Rattle.qx_types.specs.declared.step.Step.TheVariants.{Call, TakeReply, Receive, Perform}
-use Rattle.qx_machine.specs.Machine.{step}
+use Rattle.qx_machine.specs.Machine.{World, step}
 use Rattle.qx_script.specs.declared.command.Command.{Command}
 use Rattle.qx_script.specs.declared.command.Command.TheVariants.{Take, Serve, Do, Show, Erased, Trace}
 use Rattle.qx_machine.specs.Reads.{next_manager}
-use Rattle.qx_play.specs.Play.{Played, all_served, called, first_worker, hand_emptied, has_answer, is_holding, is_sent, played, played_line, played_lines, with_reply_taken, round, rounds, with_lines_served, items_waiting, world_played}
+use Rattle.qx_machine.specs.Runs.{world_after}
+use Rattle.qx_live.specs.Chosen.{first_worker, followed, items_waiting, round_steps, rounds, served_steps}
+use Rattle.qx_play.specs.Play.{Played, all_served, called, hand_emptied, has_answer, is_holding, is_sent, played, played_line, played_lines, with_reply_taken, with_lines_served, world_played}
 use Rattle.qx_words.specs.Kinds.{CanNameThread}
 use Rattle.qx_script.specs.Lines.{CanSay}
 use Rattle.qx_script.specs.Script.{Good, script}
@@ -33,24 +35,26 @@ managed config (Some manager) steps more first second = second manager
 pushed : (config : Configuration) (steps : List Step) (last : Step) → AllSaid config steps → CanSay config.users last → AllSaid config (steps ++ last ∷ [])
 pushed config steps last all said = All-push (CanSay config.users) steps last all said
 
-round_said : (config : Configuration) (moment : ℕ) (steps : List Step) (manager : Manager) → IsMoment moment → AllSaid config steps → AllSaid config (round moment steps manager)
-round_said config moment steps manager within all =
+round_said : (config : Configuration) (moment : ℕ) (manager : Manager) → IsMoment moment → AllSaid config (round_steps moment manager)
+round_said config moment manager within =
     let say = CanSay config.users in
     let does = Perform first_worker moment in
-    All-append say steps (Receive first_worker manager ∷ does ∷ []) all
-    (All-cons say (Receive first_worker manager) (does ∷ []) (omega arith, (tt, tt)) (All-cons say does [] (omega arith, (within, tt)) (All-nil say)))
+    All-cons say (Receive first_worker manager) (does ∷ []) (omega arith, (tt, tt)) (All-cons say does [] (omega arith, (within, tt)) (All-nil say))
 
-rounds_said : (left : ℕ) (config : Configuration) (moment : ℕ) (steps : List Step) → IsMoment moment → AllSaid config steps → AllSaid config (rounds left config moment steps)
-rounds_said zero config moment steps within all = all
-rounds_said (suc left) config moment steps within all =
-    managed config (next_manager (world_played config steps)) steps (λ manager. rounds left config moment (round moment steps manager)) all
-    (λ manager. rounds_said left config moment (round moment steps manager) within (round_said config moment steps manager within all))
+rounds_said : (left : ℕ) (config : Configuration) (moment : ℕ) (w : World) → IsMoment moment → AllSaid config (rounds left moment w)
+rounds_said zero config moment w within = All-nil (CanSay config.users)
+rounds_said (suc left) config moment w within =
+    managed config (next_manager w) [] (λ manager. followed w (round_steps moment manager) (rounds left moment)) (All-nil (CanSay config.users))
+    (λ manager. All-append (CanSay config.users) (round_steps moment manager) (rounds left moment (world_after w (round_steps moment manager)))
+    (round_said config moment manager within) (rounds_said left config moment (world_after w (round_steps moment manager)) within))
 
 served_said : (config : Configuration) (moment : ℕ) (steps : List Step) → IsMoment moment → AllSaid config steps → AllSaid config (with_lines_served config moment steps)
-unfolding with_lines_served all_served hand_emptied
+unfolding with_lines_served all_served hand_emptied served_steps
 served_said config moment steps within all =
-    rounds_said (2 * items_waiting (world_played config (hand_emptied config moment steps))) config moment (hand_emptied config moment steps) within
+    let w = world_played config (hand_emptied config moment steps) in
+    All-append (CanSay config.users) (hand_emptied config moment steps) (rounds (2 * items_waiting w) moment w)
     (either config (is_holding (world_played config steps)) _ steps (pushed config steps (Perform first_worker moment) all (omega arith, (within, tt))) all)
+    (rounds_said (2 * items_waiting w) config moment w within)
 
 replied_said : (config : Configuration) (thread : Thread) (steps : List Step) → CanNameThread config.users thread → AllSaid config steps → AllSaid config (with_reply_taken config thread steps)
 unfolding with_reply_taken

@@ -1,17 +1,16 @@
 -- What the lines of a script do: the steps that they take and the text that they print.
-use Rattle.std.specs.Prelude.{ℕ, zero, suc, ◌*◌, Bool, true, false, List, [], ◌∷◌, ◌++◌, Some, None, length, if◌then◌else◌, is_some, sum_by}
+use Rattle.std.specs.Prelude.{ℕ, Bool, true, false, List, [], ◌∷◌, ◌++◌, if◌then◌else◌, is_some}
 use Rattle.qx_types.specs.Configuration.{Configuration}
-use Rattle.qx_types.specs.declared.names.Manager.{Manager}
 use Rattle.qx_types.specs.declared.names.Thread.{Thread}
-use Rattle.qx_types.specs.declared.names.Worker.{Worker}
 use Rattle.qx_types.specs.declared.outcome.Outcome.{Outcome}
 use Rattle.qx_types.specs.declared.outcome.Outcome.TheVariants.{Spawned, Refused, Done, Sent, Reply, Failed, Pulse, NoPulse, WrongState, Took, Idle, Busy, Handled, Nothing}
 use Rattle.qx_types.specs.declared.step.Step.{Step}
-use Rattle.qx_types.specs.declared.step.Step.TheVariants.{Call, TakeReply, Receive, Perform}
+use Rattle.qx_types.specs.declared.step.Step.TheVariants.{Call, TakeReply, Perform}
 use Rattle.qx_machine.specs.Machine.{World, step}
 use Rattle.qx_isolation.specs.Rows.{row_at}
 use Rattle.qx_machine.specs.Runs.{erase, run, received}
-use Rattle.qx_machine.specs.Reads.{is_thread_answered, next_manager, row_among_parts}
+use Rattle.qx_machine.specs.Reads.{is_thread_answered, row_among_parts}
+use Rattle.qx_live.specs.Chosen.{first_worker, served_steps}
 use Rattle.qx_script.specs.declared.command.Command.{Command}
 use Rattle.qx_script.specs.declared.command.Command.TheVariants.{Take, Serve, Do, Show, Erased, Trace}
 use Rattle.qx_play.specs.Printed.{trace_text, transcript_text}
@@ -25,36 +24,17 @@ pub record Played : Type 0 where
 abbrev pub world_played : Configuration → List Step → World
 world_played config steps = (run config steps).world
 
--- the worker that serves
-abbrev pub first_worker : Worker
-first_worker = record { 0 = 1 }
-
 abbrev pub is_holding : World → Bool
 is_holding w = is_some (row_at w.hands 1)
-
--- the first worker takes an item and does it, at a moment
-abbrev pub round : ℕ → List Step → Manager → List Step
-round moment steps manager = steps ++ Receive first_worker manager ∷ Perform first_worker moment ∷ []
-
--- so many rounds, as long as an item waits
-abbrev pub rounds : ℕ → Configuration → ℕ → List Step → List Step
-rounds zero config moment steps = steps
-rounds (suc left) config moment steps =
-    elim (next_manager (world_played config steps)) [ None ↦ steps | Some manager ↦ rounds left config moment (round moment steps manager) ]
 
 -- the first worker does what it holds
 unfoldable pub hand_emptied : Configuration → ℕ → List Step → List Step
 hand_emptied config moment steps =
     if is_holding (world_played config steps) then steps ++ Perform first_worker moment ∷ [] else steps
 
--- how many items wait in all lines
-abbrev pub items_waiting : World → ℕ
-items_waiting w = sum_by length w.lines
-
--- every item that waits is served, and so is what serving puts into a line: each round takes one item from its line, and a message that is
--- done may put one disconnect pulse there, a pulse nothing; so twice as many rounds as items wait are enough
+-- and then all that waits is served
 unfoldable pub all_served : Configuration → ℕ → List Step → List Step
-all_served config moment steps = rounds (2 * items_waiting (world_played config steps)) config moment steps
+all_served config moment steps = steps ++ served_steps moment (world_played config steps)
 
 unfoldable pub with_lines_served : Configuration → ℕ → List Step → List Step
 with_lines_served config moment steps = all_served config moment (hand_emptied config moment steps)

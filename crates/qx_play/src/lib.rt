@@ -5,8 +5,8 @@
 //! - `laws.rt`: a script's steps, made into a script, are taken again; `show` prints what the user receives without the
 //!   others' steps
 //!
-//! What lines do and print is told in `Play.antt` and `Printed.antt`. In `proofs/`, `Serving.antt` has that serving
-//! comes to an end, by the weight of what waits (`Weights.antt`), `Shown.antt` what `show` prints.
+//! What lines do and print is told in `Play.antt` and `Printed.antt`. In `proofs/`, `Serving.antt` has that nothing waits
+//! after serving, `Shown.antt` what `show` prints.
 #![tactic(auto)]
 
 pub mod laws;

@@ -1,19 +1,19 @@
 //! What the lines of a script do: the steps that they take and the text that they print.
 
-ghost use Rattle.std.specs.Prelude.{◌≡◌, ◌≤◌, ◌<◌, ◌^◌, ◌++◌, ◌∷◌, [], ℕ, List, IfOk, OnOk, length};
+ghost use Rattle.std.specs.Prelude.{◌≡◌, ◌≤◌, ◌++◌, ◌∷◌, [], ℕ, List, IfOk, OnOk};
 ghost use Rattle.qx_types.specs.Configuration.{Configuration};
-ghost use Rattle.qx_types.specs.Managers.{manager_count};
 ghost use Rattle.qx_types.specs.declared.step.Step.{Step};
-ghost use Rattle.qx_isolation.specs.Lines.{line_at};
 ghost use Rattle.qx_machine.specs.Runs.{erase, received, run};
+ghost use Rattle.qx_live.specs.Chosen.{items_waiting};
 ghost use Rattle.qx_play.specs.Play as play;
-ghost use Rattle.qx_play.specs.Play.{all_served, called, hand_emptied, played, played_line, with_reply_taken, with_lines_served, shown, items_waiting, world_played};
+ghost use Rattle.qx_play.specs.Play.{all_served, called, hand_emptied, played, played_line, with_reply_taken, with_lines_served, shown, world_played};
 ghost use Rattle.qx_play.specs.Printed.{transcript_text};
 
 use crate::text;
+use qx_live::waiting::waiting;
 use qx_script::Command;
-use qx_types::{Config, Manager, NoMemory, Outcome, Request, Step, Thread, User, Worker};
-use qx_world::{Traced, World};
+use qx_types::{Config, NoMemory, Outcome, Request, Step, Thread, User, Worker};
+use qx_world::Traced;
 use std::alloc::Global;
 
 /// The worker that serves.
@@ -146,7 +146,7 @@ fn empty_hand(traced: &mut Traced, moment: u64) -> Result<(), NoMemory>
 }
 
 /// The first worker takes and does all that waits, and what that puts into lines.
-#[tactic(auto, unfolding(crate::specs::Play::all_served))]
+#[tactic(auto, unfolding(crate::specs::Play::all_served, qx_live::specs::Chosen::served_steps))]
 fn serve_waiting(traced: &mut Traced, moment: u64) -> Result<(), NoMemory>
     ensures config { traced.new.config ≡ traced.old.config }
     ensures steps { OnOk result (traced.new.steps ≡ all_served traced.old.config moment traced.old.steps) }
@@ -161,22 +161,4 @@ fn serve_waiting(traced: &mut Traced, moment: u64) -> Result<(), NoMemory>
         store(traced, Step::Perform { worker, moment })?;
     }
     Ok(())
-}
-
-/// How many items wait in all lines.
-fn waiting(world: &World) -> u128
-    requires { length world.now.lines ≡ manager_count }
-    ensures number { result ≡ play.items_waiting world.now }
-    ensures few { result < 2 ^ 127 }
-{
-    let mut waiting = 0;
-    let mut number = 0;
-    'lines: for _ in 0..Manager::count() {
-        let Some(manager) = world.next_from(number) else {
-            return waiting;
-        };
-        waiting += world.waiting(manager) as u128;
-        number = manager.number() + 1;
-    }
-    waiting
 }

@@ -6,6 +6,7 @@
 //! - `calling.rt`, `asked.rt`: the example, a request that is taken from its call to its answer; its test
 //! - `running.rt`: a world that runs on with a recorder
 //! - `tied.rt`: the same at whose seats steps are taken
+//! - `session.rt`: a live session of two users
 //! - `shell.rt`: the shell's edge
 #![tactic(auto)]
 
@@ -21,6 +22,8 @@ mod reads;
 mod rows;
 #[cfg(test)]
 mod running;
+#[cfg(test)]
+mod session;
 #[cfg(test)]
 mod shell;
 #[cfg(test)]

@@ -5,14 +5,15 @@ use Rattle.qx_types.specs.Managers.{manager_number, managers}
 use Rattle.qx_types.proofs.Managers.{count_managers}
 use Rattle.qx_machine.specs.Reads.{has_item}
 use Rattle.qx_world.proofs.NextLemmas.{next_told, none_told_from}
-use Rattle.qx_play.proofs.Serving.{empty_waits, line_of_each, more_waits, waits_among}
-use Rattle.qx_play.proofs.play.waiting.Goals as goal
+use Rattle.qx_live.proofs.Emptied.{empty_waits, line_of_each, more_waits, waits_among}
+use Rattle.qx_live.proofs.Reached.{reached_lines}
+use Rattle.qx_live.proofs.waiting.waiting.Goals as goal
 
 pub returns-in_default-clause-number : goal.returns-in_default-clause-number
 returns-in_default-clause-number c =
     let w = c.args.world.now in
     let none = none_told_from (has_item w) (waits_among w) (empty_waits w) c.lines.number (sym c.in_default.is ∙ c.next_from.ensures) in
-    let all = ap (sum_by length) (line_of_each w c.requires) in
+    let all = ap (sum_by length) (line_of_each w (reached_lines w c.know_reached.ensures)) in
     (omega (arith, none, c.lines.invariant.sum)) ∙ all
 
 pub returns-clause-number : goal.returns-clause-number
@@ -21,7 +22,7 @@ returns-clause-number c =
     let all = count_managers in
     let past : length managers ≤ c.lines.number = omega (arith, all, c.count-end.ensures.count, c.lines.invariant.fewer, c.lines-test.false) in
     let none : waits_among w (drop c.lines.number managers) ≡ 0 = ap (waits_among w) (drop_of_length-le managers past) in
-    (omega (arith, none, c.lines.invariant.sum)) ∙ ap (sum_by length) (line_of_each w c.requires)
+    (omega (arith, none, c.lines.invariant.sum)) ∙ ap (sum_by length) (line_of_each w (reached_lines w c.know_reached.ensures))
 
 pub lines-preserved : goal.lines-preserved
 lines-preserved c =

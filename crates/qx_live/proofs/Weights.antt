@@ -14,7 +14,7 @@ use Rattle.qx_machine.specs.Machine.{World, changed_manager, is_same_item, line_
 use Rattle.qx_machine.specs.Parts.{Change, Part, Put, Remove}
 use Rattle.qx_machine.specs.Users.{serve}
 use Rattle.qx_machine.proofs.Puts.{serve_puts_by}
-use Rattle.qx_play.specs.Play.{items_waiting}
+use Rattle.qx_live.specs.Chosen.{items_waiting}
 
 -- one more than an item's performing may put into a line
 abbrev pub weight_of : OwnItem → ℕ

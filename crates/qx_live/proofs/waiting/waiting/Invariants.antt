@@ -1,7 +1,7 @@
 use Rattle.std.proofs.Common.{◌≡◌, ◌+◌, ◌*◌, ◌≤◌, drop}
 use Rattle.qx_types.specs.Managers.{managers}
-use Rattle.qx_play.proofs.Serving.{waits_among}
-use Rattle.qx_play.proofs.play.waiting.Given as goal
+use Rattle.qx_live.proofs.Emptied.{waits_among}
+use Rattle.qx_live.proofs.waiting.waiting.Given as goal
 
 -- what waits at the managers that were met, and at those that are left; each turn leaves one less at least
 abbrev pub invariant-lines : goal.invariant-lines

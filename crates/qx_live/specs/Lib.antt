@@ -1,0 +1,4 @@
+pub mod Chosen
+pub mod Live
+pub mod Sessions
+pub mod inner
