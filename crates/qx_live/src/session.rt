@@ -100,7 +100,11 @@ impl Session {
             match due {
                 Due::Serving { user, moment, left } => self.serve(user, moment, left)?,
                 Due::Performing { user, moment, left } => self.perform(user, moment, left)?,
-                Due::Telling { user, process, thread } => self.tell(user, process, thread)?,
+                Due::Telling {
+                    user,
+                    process,
+                    thread,
+                } => self.tell(user, process, thread)?,
             }
         }
         Ok(())
@@ -147,7 +151,11 @@ impl Session {
         ensures same { caught_up self.new ≡ caught_up self.old }
         ensures less { OnOk result (left_of (due_of self.new) < left_of (due_of self.old)) }
     {
-        let telling = Due::Telling { user, process: 1, thread: 1 };
+        let telling = Due::Telling {
+            user,
+            process: 1,
+            thread: 1,
+        };
         if left == 0 {
             self.due = Some(telling);
             return Ok(());
@@ -158,7 +166,11 @@ impl Session {
         };
         let worker = FIRST;
         self.take(&Step::Receive { worker, manager })?;
-        self.due = Some(Due::Performing { user, moment, left: left - 1 });
+        self.due = Some(Due::Performing {
+            user,
+            moment,
+            left: left - 1,
+        });
         Ok(())
     }
 
@@ -183,12 +195,20 @@ impl Session {
         let proc = Proc { user, num: process };
         if thread <= Limits::THREADS {
             self.tell_thread(Thread { proc, tid: thread })?;
-            self.due = Some(Due::Telling { user, process, thread: thread + 1 });
+            self.due = Some(Due::Telling {
+                user,
+                process,
+                thread: thread + 1,
+            });
             return Ok(());
         }
         self.tell_pulses(proc)?;
         self.due = if (process as usize) < Limits::PROCESSES {
-            Some(Due::Telling { user, process: process + 1, thread: 1 })
+            Some(Due::Telling {
+                user,
+                process: process + 1,
+                thread: 1,
+            })
         } else {
             None
         };
