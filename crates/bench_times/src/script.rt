@@ -118,10 +118,13 @@ fn serve(world: &mut World, moment: u64) -> Result<(), NoMemory> {
     if world.holds(FIRST) {
         let _ = world.perform_held(FIRST, moment)?;
     }
-    for number in 0..Manager::count() {
-        if let Some(manager) = Manager::of_number(number) {
-            serve_line(world, manager, moment)?;
-        }
+    let mut number = 0;
+    for _ in 0..Manager::count() {
+        let Some(manager) = world.next_from(number) else {
+            break;
+        };
+        serve_line(world, manager, moment)?;
+        number = manager.number() + 1;
     }
     Ok(())
 }
