@@ -17,6 +17,8 @@ struct Row {
 
 const ANN: User = User(1);
 
+const BOB: User = User(2);
+
 const CY: User = User(3);
 
 /// The last user that there can be.
@@ -88,7 +90,7 @@ const INTERRUPTED: Wanted = Wanted::Ended(1, "[Failed(EINTR)]");
 
 const EXITED: Wanted = Wanted::Ended(1, "[WrongState]");
 
-const ROWS: [Row; 15] = [
+const ROWS: [Row; 18] = [
     Row {
         name: "calls are answered as in a script",
         users: "user ann\n",
@@ -96,6 +98,90 @@ const ROWS: [Row; 15] = [
         clients: &[CALLS],
         workers: &["work 1"],
         wanted: &[ANSWERS],
+    },
+    Row {
+        name: "each kind of request is answered as in a script",
+        users: "user ann\nuser bob\nworkers 2\n",
+        held: None,
+        clients: &[
+            "spawn ann 1 10\n\
+            mkdir ann.1.1 /ann/d 700\n\
+            open ann.1.1 /ann/d/f rwc 600\n\
+            write ann.1.1 3 6869\n\
+            chmod ann.1.1 3 640\n\
+            dup ann.1.1 3\n\
+            seek ann.1.1 4 set 1\n\
+            read ann.1.1 3 9\n\
+            fstat ann.1.1 3\n\
+            rename ann.1.1 /ann/d/f /ann/d/g\n\
+            stat ann.1.1 /ann/d/g\n\
+            open ann.1.1 /ann/d r 000\n\
+            list ann.1.1 5\n\
+            unlink ann.1.1 /ann/d/g\n\
+            close ann.1.1 5\n",
+            "spawn bob 1 10\n\
+            mount bob.1.1 /bob/p pipe\n\
+            open bob.1.1 /bob/p/q rwcn 600\n\
+            notify64 bob.1.1 3 poll o 6 8\n\
+            notify bob.1.1 3 pollarm i 5 7\n\
+            fill bob.1.1 3 3 07\n\
+            pulse bob.1\n\
+            raw bob.1.1 3 0102\n\
+            read bob.1.1 3 2\n",
+        ],
+        workers: &["work 1", "work 2"],
+        wanted: &[
+            Wanted::Received(
+                ANN,
+                "ann spawned 1\n\
+                ann.1.1 sent\n\
+                ann.1.1 reply 0 -\n\
+                ann.1.1 sent\n\
+                ann.1.1 reply 3 -\n\
+                ann.1.1 sent\n\
+                ann.1.1 reply 2 -\n\
+                ann.1.1 sent\n\
+                ann.1.1 reply 0 -\n\
+                ann.1.1 sent\n\
+                ann.1.1 reply 4 -\n\
+                ann.1.1 sent\n\
+                ann.1.1 reply 1 -\n\
+                ann.1.1 sent\n\
+                ann.1.1 reply 1 69\n\
+                ann.1.1 sent\n\
+                ann.1.1 reply 0 030000000100a0010100000001000000020000000000000006000000000000000600000000000000\n\
+                ann.1.1 sent\n\
+                ann.1.1 reply 0 -\n\
+                ann.1.1 sent\n\
+                ann.1.1 reply 0 030000000100a0010100000001000000020000000000000006000000000000000600000000000000\n\
+                ann.1.1 sent\n\
+                ann.1.1 reply 5 -\n\
+                ann.1.1 sent\n\
+                ann.1.1 reply 1 6700\n\
+                ann.1.1 sent\n\
+                ann.1.1 reply 0 -\n\
+                ann.1.1 sent\n\
+                ann.1.1 reply 0 -\n",
+            ),
+            Wanted::Received(
+                BOB,
+                "bob spawned 1\n\
+                bob.1.1 done\n\
+                bob.1.1 sent\n\
+                bob.1.1 reply 3 -\n\
+                bob.1.1 sent\n\
+                bob.1.1 reply 2 -\n\
+                bob.1.1 sent\n\
+                bob.1.1 reply 0 -\n\
+                bob.1.1 sent\n\
+                bob.1.1 reply 3 -\n\
+                bob.1 pulse 5 268435463\n\
+                bob.1.1 sent\n\
+                bob.1.1 error EINVAL\n\
+                bob.1.1 sent\n\
+                bob.1.1 reply 2 0707\n",
+            ),
+        ],
     },
     Row {
         name: "three users",
@@ -211,7 +297,7 @@ const ROWS: [Row; 15] = [
             Wanted::Ended(2, STOPPED),
             Wanted::Received(ANN, "ann spawned 1\nann.1.1 sent\n"),
             Wanted::Answered(ANN),
-            Wanted::Answered(User(2)),
+            Wanted::Answered(BOB),
         ],
     },
     Row {
@@ -249,7 +335,7 @@ const ROWS: [Row; 15] = [
             Wanted::Ended(1, STOPPED),
             Wanted::Ended(2, STOPPED),
             Wanted::Answered(ANN),
-            Wanted::Answered(User(2)),
+            Wanted::Answered(BOB),
             Wanted::Waiting { ram: 0, pipe: 0 },
         ],
     },
@@ -284,6 +370,43 @@ const ROWS: [Row; 15] = [
         clients: &[EXITS, READS],
         workers: &["work 1", "work 2"],
         wanted: &[EXITED],
+    },
+    // A client's thread that is not woken sleeps until the server is stopped: the last thread does that, once it has waited in vain.
+    Row {
+        name: "bob's message is interrupted in the line, and his call ends before the one worker lets ann's message go",
+        users: "user ann\nuser bob\n",
+        held: Some((FIRST, 3)),
+        clients: &[
+            "spawn ann 1 10\nspawn bob 1 10\nopen ann.1.1 /ann r 000",
+            "await 2\nopen bob.1.1 /bob r 000\nraise",
+            "await 1\n\
+            raise\n\
+            until mount bob.1.1 - ram\n\
+            interrupt bob.1.1\n\
+            await 3\n\
+            stop\n",
+        ],
+        workers: &["work 1"],
+        wanted: &[INTERRUPTED],
+    },
+    Row {
+        name: "bob's process ends, and two calls of it end before the one worker lets ann's message go",
+        users: "user ann\nuser bob\n",
+        held: Some((FIRST, 4)),
+        clients: &[
+            "spawn ann 1 10\nspawn bob 2 10\nopen ann.1.1 /ann r 000",
+            "await 2\nopen bob.1.1 /bob r 000\nraise",
+            "await 2\nopen bob.1.2 /bob r 000\nraise",
+            "await 1\n\
+            raise\n\
+            until mount bob.1.1 - ram\n\
+            until mount bob.1.2 - ram\n\
+            exit bob.1\n\
+            await 4\n\
+            stop\n",
+        ],
+        workers: &["work 1"],
+        wanted: &[EXITED, Wanted::Ended(2, "[WrongState]")],
     },
     Row {
         name: "an exit that leaves two disconnect pulses wakes two workers: each holds its own until the other has come",

@@ -1,17 +1,21 @@
 //! What a service does that a server whose steps are stored is not made for: it goes on in another one, with what a worker held;
-//! and clients that wait for pulses.
+//! a loop that wants memory stops it; and clients that wait for pulses.
 
 use crate::acts::Signals;
 use crate::runs::thread;
-use qx_pool::{PulseEnd, Service, ServiceClient, worker_loop};
-use qx_types::{Manager, Outcome, Proc, Request, Step, Thread, User, Worker};
+use qx_pool::{CallEnd, PulseEnd, Service, ServiceClient, StepFault, worker_loop};
+use qx_types::{Coid, Item, Manager, Outcome, Proc, Request, Step, Thread, User, Worker};
 use qx_world::World;
 use std::alloc::Global;
 use std::process::Abort;
 use std::sync::Wait;
-use std::sync::atomic::AtomicU64;
+use std::sync::atomic::{AtomicU64, Ordering};
 use std::thread::{Threads, scope, scope_env};
+use test_all_memory::take_all_memory;
 use test_steps::script::{LinesFault, config, steps};
+
+/// The second user, so that a wake of another one is seen.
+const BOB: User = User(2);
 
 /// A service at boot.
 fn service(rt: &impl Abort, alloc: Global) -> Result<Service, LinesFault> {
@@ -25,11 +29,9 @@ fn on(rt: &impl Abort, alloc: Global, world: World) -> Service {
 }
 
 /// Signals of which nobody waits for any between a receive and its perform.
-fn signals() -> Signals {
-    Signals {
-        raised: AtomicU64::new(0),
-        held: None,
-    }
+fn signals(held: Option<(Item, u64)>) -> Signals {
+    let raised = AtomicU64::new(0);
+    Signals { raised, held }
 }
 
 /// Takes steps of clients, and waits for none. Whether each was taken.
@@ -68,7 +70,7 @@ fn goes_on_with_what_is_held(rt: HostRuntime) -> Result<(), LinesFault> {
     assert!(rt; matches!(taken, Outcome::Took(_)));
     let second = on(&rt, alloc, world);
     second.stop(&rt);
-    let signals = signals();
+    let signals = signals(None);
     worker_loop(&rt, &second, (), Worker(1), &signals, &signals);
     let piece = second.recent(&rt, 0)?;
     assert!(rt; piece.first == 1 && piece.steps.len() == 3);
@@ -77,25 +79,63 @@ fn goes_on_with_what_is_held(rt: HostRuntime) -> Result<(), LinesFault> {
     Ok(())
 }
 
+/// A message of more bytes than stand in a value, so that its copy wants memory; and one whose performing does.
+const LONG: &str = "spawn ann 1 10\nstat ann.1.1 /ann/0123456789012345678901234567890123456789\n";
+
+const SHORT: &str = "spawn ann 1 10\nopen ann.1.1 /ann/f rwc 600\n";
+
+/// Where a loop wants memory while there is none: for a copy of what its worker holds, for one of what it receives, and to
+/// perform that. What was called, whether that is held, and how often the loop's gate is passed.
+const WANTS: [(&str, bool, u64); 3] = [(LONG, true, 0), (LONG, false, 0), (SHORT, false, 1)];
+
+/// A loop that wants memory stops the service: it takes no more steps and calls of clients.
+#[test]
+fn want_of_memory_stops_it(rt: HostRuntime) -> Result<(), LinesFault> {
+    let alloc = rt.alloc();
+    let thread = thread(User(1), 1);
+    for (called, is_held, passed) in WANTS {
+        let first = service(&rt, alloc)?;
+        assert!(rt; take_all(&rt, &first, steps(alloc, called)?));
+        let mut world = first.into_world();
+        if is_held {
+            world.receive(Worker(1), Manager::Ram);
+        }
+        let second = on(&rt, alloc, world);
+        let signals = signals(Some((Item::Message(thread), 0)));
+        let pieces = take_all_memory(alloc)?;
+        worker_loop(&rt, &second, (), Worker(1), &signals, &signals);
+        drop(pieces);
+        let mut client = ServiceClient::new((), thread);
+        let fault = client.step(&rt, &second, Step::TakeReply { thread });
+        assert!(rt;
+            matches!(fault, Err(StepFault::Stopped(..))),
+            "{called} {is_held}"
+        );
+        let end = client.call(&rt, &second, Request::Fstat { coid: Coid(3) });
+        assert!(rt; matches!(end, CallEnd::Stopped(_)));
+        assert!(rt; signals.raised.load(Ordering::SeqCst) == passed);
+        let world = second.into_world();
+        assert!(rt; world.blocked(thread) && world.holds(Worker(1)));
+    }
+    Ok(())
+}
+
 /// Two processes, of which the first is told of what is written to its pipe.
-const TWO: &str = "spawn ann 2 10\nspawn ann 1 10\nmount ann.1.1 /ann/p pipe\n";
+const TWO: &str = "spawn bob 2 10\nspawn bob 1 10\nmount bob.1.1 /bob/p pipe\n";
 
 const TOLD: &str = "\
-    open ann.1.2 /ann/p/q rwcn 600\n\
-    notify ann.1.2 3 pollarm i 5 7\n\
-    write ann.1.2 3 00\n";
+    open bob.1.2 /bob/p/q rwcn 600\n\
+    notify bob.1.2 3 pollarm i 5 7\n\
+    write bob.1.2 3 00\n";
 
 /// Waits for pulses of the first process until it has ended, and then for one of the second process.
 fn wait_thrice(rt: &impl Wait, service: &Service, signals: &Signals) -> [PulseEnd; 3] {
-    let mut client = ServiceClient::new((), thread(User(1), 1));
+    let mut client = ServiceClient::new((), thread(BOB, 1));
     let pulse = client.pulse(rt, service);
     signals.raise();
     let ended = client.pulse(rt, service);
     signals.raise();
-    let proc = Proc {
-        user: User(1),
-        num: 2,
-    };
+    let proc = Proc { user: BOB, num: 2 };
     let mut client = ServiceClient::new((), Thread { proc, tid: 1 });
     [pulse, ended, client.pulse(rt, service)]
 }
@@ -107,12 +147,12 @@ fn wake_thrice<R: Wait + Abort>(
     service: &Service,
     signals: &Signals,
 ) -> Result<(), LinesFault> {
-    let mut client = ServiceClient::new((), thread(User(1), 2));
+    let mut client = ServiceClient::new((), thread(BOB, 2));
     for request in requests(rt, alloc, TOLD)? {
         client.call(rt, service, request);
     }
     signals.wait_for(rt, 1);
-    take_all(rt, service, steps(alloc, "exit ann.1\n")?);
+    take_all(rt, service, steps(alloc, "exit bob.1\n")?);
     signals.wait_for(rt, 2);
     Ok(())
 }
@@ -149,7 +189,7 @@ fn ends_of<R: Threads + Wait + Abort + Sync>(
 fn waits_for_pulses(rt: HostRuntime) -> Result<(), LinesFault> {
     let service = service(&rt, rt.alloc())?;
     assert!(rt; take_all(&rt, &service, steps(rt.alloc(), TWO)?));
-    let signals = signals();
+    let signals = signals(None);
     let ends = ends_of(&rt, rt.alloc(), &service, &signals)?;
     assert!(rt; !signals.have_failed());
     let [pulse, ended, last] = ends;
