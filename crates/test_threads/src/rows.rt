@@ -86,6 +86,9 @@ const EXITS: &str = "\
 
 const READS: &str = "await 1\nread ann.1.2 3 3";
 
+/// Answers four signals of another thread.
+const ECHO: &str = "await 3\nraise\nawait 5\nraise\nawait 7\nraise\nawait 9\nraise";
+
 const INTERRUPTED: Wanted = Wanted::Ended(1, "[Failed(EINTR)]");
 
 const EXITED: Wanted = Wanted::Ended(1, "[WrongState]");
@@ -371,20 +374,23 @@ const ROWS: [Row; 18] = [
         workers: &["work 1", "work 2"],
         wanted: &[EXITED],
     },
-    // A client's thread that is not woken sleeps until the server is stopped: the last thread does that, once it has waited in vain.
+    // A client's thread that is not woken sleeps until the server is stopped: the third or fourth thread does that, once it has waited
+    // in vain. Signals to and fro before its step give who called the time to fall asleep.
     Row {
         name: "bob's message is interrupted in the line, and his call ends before the one worker lets ann's message go",
         users: "user ann\nuser bob\n",
-        held: Some((FIRST, 3)),
+        held: Some((FIRST, 11)),
         clients: &[
             "spawn ann 1 10\nspawn bob 1 10\nopen ann.1.1 /ann r 000",
             "await 2\nopen bob.1.1 /bob r 000\nraise",
             "await 1\n\
             raise\n\
             until mount bob.1.1 - ram\n\
+            raise\nawait 4\nraise\nawait 6\nraise\nawait 8\nraise\nawait 10\n\
             interrupt bob.1.1\n\
-            await 3\n\
+            await 11\n\
             stop\n",
+            ECHO,
         ],
         workers: &["work 1"],
         wanted: &[INTERRUPTED],
@@ -392,7 +398,7 @@ const ROWS: [Row; 18] = [
     Row {
         name: "bob's process ends, and two calls of it end before the one worker lets ann's message go",
         users: "user ann\nuser bob\n",
-        held: Some((FIRST, 4)),
+        held: Some((FIRST, 12)),
         clients: &[
             "spawn ann 1 10\nspawn bob 2 10\nopen ann.1.1 /ann r 000",
             "await 2\nopen bob.1.1 /bob r 000\nraise",
@@ -401,9 +407,11 @@ const ROWS: [Row; 18] = [
             raise\n\
             until mount bob.1.1 - ram\n\
             until mount bob.1.2 - ram\n\
+            raise\nawait 4\nraise\nawait 6\nraise\nawait 8\nraise\nawait 10\n\
             exit bob.1\n\
-            await 4\n\
+            await 12\n\
             stop\n",
+            ECHO,
         ],
         workers: &["work 1"],
         wanted: &[EXITED, Wanted::Ended(2, "[WrongState]")],
