@@ -3,6 +3,7 @@
 ghost use Rattle.std.specs.Prelude.{◌≡◌, ◌≢◌, ◌<◌, ◌≤◌, ◌+◌, ℕ, None, length, is_some, option_map, IfOk, IfSome, IsSome, IsTrue, Some};
 ghost use Rattle.qx_types.specs.Managers.{manager_number};
 ghost use Rattle.qx_types.specs.declared.limits.TheConstants.Limits.{PROCESSES, THREADS};
+ghost use Rattle.qx_types.specs.declared.names.TheConstants.Manager.{MOST};
 ghost use Rattle.qx_isolation.specs.Rows.{row_at};
 ghost use Rattle.qx_queues.specs.Nodes.{Asked, disconnect_at, no_nodes, no_process, nodes_of_thread, process_at, process_nodes_in, servers_with, threads_with, user_with, with_disconnect_at, with_nodes_at};
 
@@ -41,17 +42,19 @@ impl ProcessNodes {
         self.threads[thread as usize] = own;
     }
 
-    fn disconnect(&self, manager: Manager) -> Option<usize>
-        ensures node { result ≡ row_at self.now.servers (manager_number manager) }
+    fn disconnect(&self, manager: usize) -> Option<usize>
+        requires manager { manager < MOST }
+        ensures node { result ≡ row_at self.now.servers manager }
     {
-        self.servers[manager.number()]
+        self.servers[manager]
     }
 
-    fn set_disconnect(&mut self, manager: Manager, node: Option<usize>)
-        ensures set { self.new ≡ servers_with self.old (manager_number manager) node }
-        ensures there { row_at self.new.servers (manager_number manager) ≡ node }
+    fn set_disconnect(&mut self, manager: usize, node: Option<usize>)
+        requires manager { manager < MOST }
+        ensures set { self.new ≡ servers_with self.old manager node }
+        ensures there { row_at self.new.servers manager ≡ node }
     {
-        self.servers[manager.number()] = node;
+        self.servers[manager] = node;
     }
 }
 
@@ -75,9 +78,10 @@ impl UserNodes {
         self.processes[process as usize].set(thread, own);
     }
 
-    fn set_disconnect(&mut self, process: u8, manager: Manager, node: Option<usize>)
-        ensures set { self.new ≡ user_with self.old process (servers_with (process_nodes_in self.old process) (manager_number manager) node) }
-        ensures there { process_nodes_in self.old process ≢ no_process → row_at (process_nodes_in self.new process).servers (manager_number manager) ≡ node }
+    fn set_disconnect(&mut self, process: u8, manager: usize, node: Option<usize>)
+        requires manager { manager < MOST }
+        ensures set { self.new ≡ user_with self.old process (servers_with (process_nodes_in self.old process) manager node) }
+        ensures there { process_nodes_in self.old process ≢ no_process → row_at (process_nodes_in self.new process).servers manager ≡ node }
     {
         let place = process as usize;
         if place < self.processes.len() {
@@ -178,9 +182,10 @@ impl Nodes {
         self.set(thread, Some(ThreadNodes { asked, ..own }));
     }
 
-    /// The disconnect node of a process' server connection at a manager, until it goes into the line there.
-    pub fn disconnect(&self, proc: Proc, manager: Manager) -> Option<usize>
-        ensures node { result ≡ disconnect_at self.now proc (manager_number manager) }
+    /// The disconnect node of a process' server connection at a manager of this number, until it goes into the line there.
+    pub fn disconnect(&self, proc: Proc, manager: usize) -> Option<usize>
+        requires manager { manager < MOST }
+        ensures node { result ≡ disconnect_at self.now proc manager }
     {
         let of_user = self.users.get(proc.user.0 as usize)?;
         of_user
@@ -189,10 +194,11 @@ impl Nodes {
             .disconnect(manager)
     }
 
-    /// A process has another disconnect node at a manager from now on, or none.
-    pub fn set_disconnect(&mut self, proc: Proc, manager: Manager, node: Option<usize>)
-        ensures set { self.new ≡ with_disconnect_at self.old proc (manager_number manager) node }
-        ensures there { process_at self.old proc ≢ no_process → disconnect_at self.new proc (manager_number manager) ≡ node }
+    /// A process has another disconnect node at a manager of this number from now on, or none.
+    pub fn set_disconnect(&mut self, proc: Proc, manager: usize, node: Option<usize>)
+        requires manager { manager < MOST }
+        ensures set { self.new ≡ with_disconnect_at self.old proc manager node }
+        ensures there { process_at self.old proc ≢ no_process → disconnect_at self.new proc manager ≡ node }
     {
         let place = proc.user.0 as usize;
         if place < self.users.len() {

@@ -1,17 +1,19 @@
 //! The managers' lines and the lists of calls that wait or were answered, over one table, in which the nodes of all users'
 //! threads and server connections stand.
 
-ghost use Rattle.std.specs.Prelude.{◌≡◌, ℕ, ◌+◌, ◌-◌, ◌*◌, ◌<◌, ◌≤◌, false, option_map, length, drop, slice_get, is_some, max, IfOk, IsOk, OnOk, OnErr, IfSome, IsTrue, None, Some, find, nat_lt};
+ghost use Rattle.std.specs.Prelude.{◌≡◌, ◌≢◌, ℕ, ◌+◌, ◌-◌, ◌*◌, ◌<◌, ◌≤◌, false, option_map, length, drop, slice_get, is_some, max, IfOk, IsOk, OnOk, OnErr, IfSome, IsTrue, None, Some, find, nat_lt};
 ghost use Rattle.std.specs.FinMap as maps;
 ghost use Rattle.qx_types.specs.Managers.{manager_number, managers};
 ghost use Rattle.qx_types.specs.declared.limits.TheConstants.Limits.{PROCESSES, THREADS};
+ghost use Rattle.qx_types.specs.declared.names.TheConstants.Manager.{MOST};
 ghost use Rattle.qx_lists.specs.Table.{ContainsNode, IsFree, IsIn, nodes_of, with_nodes, with_value, without};
-ghost use Rattle.qx_lines.specs.Line.{IsInLine, IsLineOf};
+ghost use Rattle.qx_lines.specs.Line.{IsInLine, IsLineOf, item_count};
 ghost use Rattle.qx_isolation.specs.Lines.{into};
 ghost use Rattle.qx_machine.specs.Machine as machine;
 ghost use Rattle.qx_isolation.specs.declared.rows.OwnItem.TheVariants as item;
 ghost use Rattle.qx_queues.specs.Queues.{HasNoListedCall, HasThreadNodes, IsGone, disconnect_of, pulse_call, queues_line, has_server_node, has_thread_nodes, message_of, no_queues, stands, unblock_call, unblock_of, with_disconnect, with_queues_line, with_process_nodes, with_server_node, with_thread_nodes, without_first_item, without_process_nodes, without_thread_nodes};
 ghost use Rattle.qx_queues.specs.inner.Kept.{PutIn, TakenOut, entries, entry_of_node, node_owner, waiting_of_node};
+ghost use Rattle.qx_queues.specs.inner.Marks.{is_marked};
 ghost use Rattle.qx_queues.specs.Nodes.{Unblock};
 ghost use Rattle.qx_queues.specs.Waiting.{ComesWithRoom, addressed_by, idle, rank_of};
 ghost use Rattle.qx_queues.specs.inner.Waiting.{KeepsRoom, load_of, ranked};
@@ -110,9 +112,7 @@ impl Queues {
         self.table.know();
         let number = manager.number();
         let line = &mut self.lines[number];
-        let taken = take_out(&mut self.table, line);
-        self.marks = marked(self.marks, number, line.len() > 0);
-        let (node, first) = taken?;
+        let (node, first) = take_out(&mut self.table, line, &mut self.marks, number)?;
         match first.item {
             OwnItem::Message { .. } => {}
             OwnItem::Unblock {
@@ -330,7 +330,8 @@ impl Queues {
         ensures had_room { 1 ≤ self.old.room → IsOk result }
         ensures err { OnErr result (self.new ≡ self.old) }
     {
-        if self.nodes.disconnect(proc, manager).is_some() {
+        let number = manager.number();
+        if self.nodes.disconnect(proc, number).is_some() {
             return Ok(());
         }
         self.table.reserve(1)?;
@@ -341,7 +342,7 @@ impl Queues {
             &mut self.table,
             Waiting::new(queued_message(nobody, Prio(Limits::PRIORITY))),
         );
-        self.nodes.set_disconnect(proc, manager, Some(node));
+        self.nodes.set_disconnect(proc, number, Some(node));
         Ok(())
     }
 
@@ -352,15 +353,15 @@ impl Queues {
         requires lowest { 1 ≤ prio.0 }
         ensures disconnected { self.new ≡ with_disconnect self.old proc server prio.0 }
     {
-        let Some(node) = self.nodes.disconnect(proc, server.manager) else {
+        let number = server.manager.number();
+        let Some(node) = self.nodes.disconnect(proc, number) else {
             unreachable!();
         };
-        let number = server.manager.number();
+        self.nodes.set_disconnect(proc, number, None);
         let line = &mut self.lines[number];
         let pulse = queued_disconnect(proc, server, prio);
         put_in(&mut self.table, line, node, pulse);
         self.marks = marked(self.marks, number, true);
-        self.nodes.set_disconnect(proc, server.manager, None);
     }
 }
 
@@ -462,16 +463,28 @@ fn put_again(table: &mut Table<Waiting>, line: &mut Line, node: usize, prio: Pri
     lines::put(line, table, node);
 }
 
-/// Takes the first node out of a line, with what it stands for.
-fn take_out(table: &mut Table<Waiting>, line: &mut Line) -> Option<(usize, Queued)>
+/// Takes the first node out of a manager's line, with what it stands for. With the last node the manager's mark goes.
+fn take_out(
+    table: &mut Table<Waiting>,
+    line: &mut Line,
+    marks: &mut Marks,
+    number: usize,
+) -> Option<(usize, Queued)>
     requires line { IsLineOf rank_of table.old line.old }
     requires there { (list node : ℕ) → IsIn table.old list node → ContainsNode table.old node }
+    requires number { number < MOST }
+    requires marked { is_marked marks.old number ≡ nat_lt 0 (item_count line.old) }
     ensures out { TakenOut table.old table.new line.old line.new (drop 1) }
     ensures first { option_map (λ taken. taken.1) result ≡ slice_get (entries table.old line.old) 0 }
     ensures entry { IfSome result (λ taken. entry_of_node table.new taken.0 ≡ taken.1) }
     ensures free { IfSome result (λ taken. IsFree table.new taken.0) }
+    ensures mark { is_marked marks.new number ≡ nat_lt 0 (item_count line.new) }
+    ensures others { (other : ℕ) → other < MOST → other ≢ number → is_marked marks.new other ≡ is_marked marks.old other }
 {
     let node = lines::take(line, table)?;
+    if line.len() == 0 {
+        *marks = marked(*marks, number, false);
+    }
     Some((node, table.value(node).queued()))
 }
 
