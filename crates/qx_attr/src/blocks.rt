@@ -4,10 +4,9 @@ ghost use Rattle.qx_attr.specs.inner.Blocks.{numbers_of};
 ghost use Rattle.qx_machine.specs.Inodes.{is_clients, moved_to};
 ghost use Rattle.qx_isolation.specs.Rows.{lowest_from, put_row, row_at, with_row};
 
-use crate::growth;
 use qx_hint::{assert_unchecked, unwrap_unchecked};
 use qx_machine::{Client, Ocb};
-use qx_rows::places;
+use qx_rows::{growth, places};
 use slab::Slab;
 use std::alloc::{AllocError, Global};
 use std::marker::Model;

@@ -11,12 +11,11 @@ ghost use Rattle.qx_types.specs.declared.limits.TheConstants.Limits.{BLOCKS, INO
 
 use crate::attr::Attr;
 use crate::blocks::Blocks;
-use crate::growth;
 use crate::status::{Status, stat_bytes};
 use bitflags::Flags;
 use qx_hint::as_mut_unchecked;
 use qx_machine::{Attribute, Client, Ocb, Sides};
-use qx_rows::places;
+use qx_rows::{growth, places};
 use qx_types::{Errno, Limits, OFlags};
 use std::alloc::{AllocError, Global};
 use std::marker::Model;

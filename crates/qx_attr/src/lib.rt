@@ -10,7 +10,6 @@
 pub mod access;
 pub mod attr;
 mod blocks;
-pub mod growth;
 pub mod inodes;
 mod status;
 

@@ -5,18 +5,20 @@ ghost use Rattle.std.specs.Str.{bytes_eq};
 use std::alloc::{AllocError, Global};
 use std::marker::Model;
 
-/// Bytes of a path, a name or a request, which contracts see as a list of numbers.
+/// Bytes of a path, a name or a request, which contracts see as a list of numbers. No bytes take no memory.
 #[derive(Debug, Drop)]
 pub struct Bytes {
     items: Vec<u8>,
 }
 
 impl Model for Bytes {
-    ghost use Rattle.std.specs.Prelude.{List, ℕ};
+    ghost use Rattle.std.specs.Prelude.{◌≡◌, List, ℕ, length, vec_capacity};
 
     ghost Value = { List ℕ };
 
     ghost view = { λ b. b.items.items };
+
+    ghost invariant = { λ b. length b.items.items ≡ 0 → vec_capacity b.items ≡ 0 };
 }
 
 impl Bytes {
@@ -29,10 +31,13 @@ impl Bytes {
         }
     }
 
-    /// The bytes of a vector, in its memory.
+    /// The bytes of a vector, in its memory; that of a vector with no bytes is given back.
     pub fn from_vec(items: Vec<u8>) -> Self
         ensures { result ≡ items.items }
     {
+        if items.is_empty() {
+            return Bytes::new(*items.allocator());
+        }
         Bytes { items }
     }
 
@@ -48,12 +53,11 @@ impl Bytes {
     pub fn from_slice(alloc: Global, bytes: &[u8]) -> Result<Self, AllocError>
         ensures { IfOk result (λ copy. copy ≡ bytes.now) }
     {
-        Ok(Bytes {
-            items: Vec::from_slice(alloc, bytes)?,
-        })
+        Ok(Bytes::from_vec(Vec::from_slice(alloc, bytes)?))
     }
 
-    /// Keeps the first bytes, at most so many, in the memory that they stand in; all other memory is given back.
+    /// Keeps the first bytes, at most so many, in the memory that they stand in. What the allocator takes back of the rest is
+    /// given back: all of it where no byte is left.
     pub fn keep_first(&mut self, most: usize)
         ensures { self.new ≡ take most self.old }
     {
@@ -107,8 +111,6 @@ impl Clone for Bytes {
     ghost is_clone = { λ original copy. copy ≡ original };
 
     fn clone(&self) -> Result<Bytes, AllocError> {
-        Ok(Bytes {
-            items: self.items.clone()?,
-        })
+        Ok(Bytes::from_vec(self.items.clone()?))
     }
 }

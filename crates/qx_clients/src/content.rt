@@ -1,6 +1,6 @@
 //! What a call sends, and its bytes.
 
-ghost use Rattle.std.specs.Prelude.{◌≡◌, [], vec_capacity, IsOk, IsTrue, IfOk, OnErr, OnOk};
+ghost use Rattle.std.specs.Prelude.{◌≡◌, ◌+◌, ◌++◌, ◌≤◌, [], length, vec_capacity, vec_len, IsOk, IsTrue, IfOk, OnErr, OnOk};
 ghost use Rattle.qx_base.specs.Memory.{FitInto, kept_beside};
 ghost use Rattle.qx_machine.specs.Calls as calls;
 ghost use Rattle.qx_machine.specs.Calls.{bytes_of, can_send, content_of, request_in_ranges};
@@ -33,7 +33,7 @@ pub fn encoded(
         | Request::StatPath { .. }
         | Request::Unlink { .. }
         | Request::Mkdir { .. } => joined(*memory.allocator(), rest)?,
-        Request::Rename { .. } => both(*memory.allocator(), rest, to)?,
+        Request::Rename { .. } => Bytes::from_vec(both(*memory.allocator(), rest, to)?),
         _ => Bytes::new(*memory.allocator()),
     };
     match content_of(request, named.as_slice(), rest, to) {
@@ -54,24 +54,39 @@ fn joined(alloc: Global, rest: &Path<'_>) -> Result<Bytes, NoMemory>
     Ok(rest.joined(alloc)?)
 }
 
-/// What both paths of a rename have behind the mount, as it stands in its message; for nothing no memory is taken. A function
-/// of its own, so that no other call goes through it.
+/// What both paths of a rename have behind the mount, as it stands in its message, in memory for just these bytes; for nothing
+/// no memory is taken. A function of its own, so that no other call goes through it.
 #[cold]
 #[inline(never)]
-fn both(alloc: Global, from: &Path<'_>, to: &Path<'_>) -> Result<Bytes, NoMemory>
-    ensures named { IfOk result (λ bytes. NameTwo bytes from.now to.now) }
+fn both(alloc: Global, from: &Path<'_>, to: &Path<'_>) -> Result<Vec<u8>, NoMemory>
+    ensures named { IfOk result (λ bytes. NameTwo bytes.items from.now to.now) }
     ensures sure { from.now ≡ [] → to.now ≡ [] → IsOk result }
+    ensures capacity { IfOk result (λ bytes. vec_capacity bytes ≡ vec_len bytes) }
 {
     if from.is_empty() && to.is_empty() {
-        return Ok(Bytes::new(alloc));
+        return Ok(Vec::new(alloc));
     }
     from.know();
+    to.know();
     let (from, to) = (from.joined(alloc)?, to.joined(alloc)?);
     let len = (from.len() as u16).to_le_bytes();
-    let mut both = Vec::from_slice(alloc, &len)?;
-    both.extend_from_slice(from.as_slice())?;
-    both.extend_from_slice(to.as_slice())?;
-    Ok(Bytes::from_vec(both))
+    let both = Vec::with_capacity(alloc, len.len() + from.len() + to.len())?;
+    let both = with_piece(both, &len);
+    let both = with_piece(both, from.as_slice());
+    Ok(with_piece(both, to.as_slice()))
+}
+
+/// Bytes and a piece behind them, for which there is room.
+fn with_piece(mut bytes: Vec<u8>, piece: &[u8]) -> Vec<u8>
+    requires room { vec_len bytes + length piece.now ≤ vec_capacity bytes }
+    ensures bytes { result.items ≡ bytes.items ++ piece.now }
+    ensures len { vec_len result ≡ vec_len bytes + length piece.now }
+    ensures capacity { vec_capacity result ≡ vec_capacity bytes }
+{
+    for number in 0..piece.len() {
+        bytes.push_reserved(piece[number]);
+    }
+    bytes
 }
 
 /// Whether each field of a request is in its range. A path is judged as a path, and the connection of a dup by whether it

@@ -21,14 +21,14 @@ use qx_types::{Coid, Errno, LimitName, Limits, Manager, Outcome, Prio, UserLimit
 use std::alloc::{AllocError, Global};
 use std::marker::Model;
 
-/// The processes of a user.
+/// The processes of a user, in a table with memory for at most twice its places.
 #[derive(Drop)]
 pub struct Processes {
     rows: Vec<Option<Process>>,
 }
 
 impl Model for Processes {
-    ghost use Rattle.std.specs.Prelude.{◌+◌, ◌<◌, ◌≤◌, List, Option, length};
+    ghost use Rattle.std.specs.Prelude.{◌+◌, ◌*◌, ◌<◌, ◌≤◌, List, Option, length, vec_capacity};
     ghost use Rattle.qx_types.specs.declared.limits.TheConstants.Limits.{PROCESSES};
     ghost use Rattle.qx_machine.specs.Processes as machine;
 
@@ -36,7 +36,7 @@ impl Model for Processes {
 
     ghost view = { λ p. p.rows.items };
 
-    ghost invariant = { λ p. (0 < length p.rows.items) × (length p.rows.items ≤ PROCESSES + 1) };
+    ghost invariant = { λ p. (0 < length p.rows.items) × (length p.rows.items ≤ PROCESSES + 1) × (vec_capacity p.rows ≤ 2 * length p.rows.items) };
 }
 
 impl Processes {

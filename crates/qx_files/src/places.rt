@@ -5,8 +5,7 @@ ghost use Rattle.qx_files.specs.Blocks.{blocks_after, blocks_for, with_blocks};
 ghost use Rattle.qx_files.specs.inner.Places.{HasAll, InOrder, InRun, LacksOne, LacksPlace, Stand, Stay, byte_after, byte_at, padded, there};
 ghost use Rattle.qx_isolation.specs.Rows.{row_at};
 
-use qx_attr::growth;
-use qx_rows::places;
+use qx_rows::{growth, places};
 use std::alloc::AllocError;
 use std::mem::replace;
 

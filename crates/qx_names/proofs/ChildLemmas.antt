@@ -107,9 +107,9 @@ module _ (t new : Table Entry) (children : Children) (keeps : Keeps t children) 
 
   -- ---- an entry is put in, by a new node
 
-  module _ (name : Place) (inode : ℕ) (place_is : place ≡ count_to name entries) (absent : find place_cmp name entries ≡ None) (made : (children.list ≡ Some list) ⊎ ((children.list ≡ None) × (map.get t.lists list ≡ None))) (fresh : map.get t.values node ≡ None) (here : map.get new.lists list ≡ Some (insert children.nodes place node)) (values : new.values ≡ map.insert t.values node (name, inode)) where
+  module _ (name : Place) (inode : ℕ) (place_is : place ≡ count_to name entries) (absent : find place_cmp name entries ≡ None) (made : (children.list ≡ Some list) ⊎ ((children.list ≡ None) × (map.get t.lists list ≡ None))) (fresh : map.get t.values node ≡ None) (here : map.get new.lists list ≡ Some (insert children.nodes place node)) (values : new.values ≡ map.insert t.values node (name, inode)) (capacity : ℕ) where
     abbrev with_entry : Children
-    with_entry = record { list = Some list; nodes = insert children.nodes place node }
+    with_entry = record { list = Some list; nodes = insert children.nodes place node; capacity = capacity }
 
     is_other : (other : ℕ) → ContainsNode t other → other ≢ node
     is_other other is same = let clash : is_some {T = Entry} None ≡ true = sym (ap is_some (ap (map.get t.values) same ∙ fresh)) ∙ is in cc

@@ -86,9 +86,9 @@ module _ (t : Table Entry) (children : Children) (keeps : Keeps t children) (lis
 
   -- ---- the node at its new place
 
-  module _ (next : ℕ) (counted : next ≡ count_to to (mapped (entry_of valued) (remove children.nodes place))) (new : Table Entry) (linked : new ≡ with_nodes valued list (insert (remove children.nodes place) next node)) where
+  module _ (next : ℕ) (counted : next ≡ count_to to (mapped (entry_of valued) (remove children.nodes place))) (new : Table Entry) (linked : new ≡ with_nodes valued list (insert (remove children.nodes place) next node)) (capacity : ℕ) where
     abbrev pub after : Children
-    after = record { list = Some list; nodes = insert (remove children.nodes place) next node }
+    after = record { list = Some list; nodes = insert (remove children.nodes place) next node; capacity = capacity }
 
     new_values : new.values ≡ valued.values
     new_values = ap (λ (u : Table Entry). u.values) linked

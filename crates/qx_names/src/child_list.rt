@@ -1,6 +1,6 @@
 //! The entries of all directories of a user, one directory's behind another's, in a list of a table that the caller lends.
 
-ghost use Rattle.std.specs.Prelude.{◌≡◌, ◌==◌, ◌≤◌, ℕ, [], None, Some, IfNone, IfSome, OnErr, OnOk, insert, length, map as mapped, slice_get};
+ghost use Rattle.std.specs.Prelude.{◌≡◌, ◌==◌, ◌*◌, ◌≤◌, ℕ, [], None, Some, IfNone, IfSome, OnErr, OnOk, insert, length, map as mapped, max, slice_get};
 ghost use Rattle.std.specs.FinMap as map;
 ghost use Rattle.std.specs.FinMap.Entries.{find};
 ghost use Rattle.qx_lists.specs.Table.{IsFree, with_nodes};
@@ -11,16 +11,16 @@ ghost use Rattle.qx_types.specs.declared.limits.TheConstants.Limits.{COMPONENT, 
 
 use crate::entry::Entry;
 use crate::search::place_behind;
-use qx_attr::growth;
 use qx_lists::Table;
-use qx_rows::Reply;
+use qx_rows::{Reply, growth};
 use qx_types::Limits;
 use std::alloc::{AllocError, Global};
 use std::marker::Model;
 
 /// The entries of all directories: a list of the table, by directory and then in the order of the names' bytes, and beside it
 /// an index, which has the list's nodes in the list's order. By the index a name is found, by the list the next one. An entry
-/// that goes to another directory stays one of them, so that takes no memory.
+/// that goes to another directory stays one of them, so that takes no memory. The index has memory for at most twice as many
+/// entries as there ever were, and none where there is no entry.
 #[derive(Drop)]
 pub(crate) struct ChildList {
     // None where there is no entry.
@@ -36,7 +36,7 @@ impl Model for ChildList {
 
     ghost coded = { children_code };
 
-    ghost view = { λ c. record { list = c.list; nodes = c.index.items } };
+    ghost view = { λ c. record { list = c.list; nodes = c.index.items; capacity = vec_capacity c.index } };
 
     ghost invariant = { λ c. length c.index.items ≡ 0 → vec_capacity c.index ≡ 0 };
 }
@@ -109,6 +109,7 @@ impl ChildList {
         ensures turns { Turns table.old table.new self.old self.new }
         ensures ok { OnOk result (folder_of table.new self.new ≡ map.insert (folder_of table.old self.old) (directory, name.now) inode) }
         ensures err { OnErr result (folder_of table.new self.new ≡ folder_of table.old self.old) }
+        ensures capacity { self.new.capacity ≤ max self.old.capacity (2 * length self.new.nodes) }
     {
         let Some(list) = self.list else {
             return self.insert_first(table, directory, name, inode);
@@ -137,6 +138,7 @@ impl ChildList {
         ensures turns { Turns table.old table.new self.old self.new }
         ensures ok { OnOk result (folder_of table.new self.new ≡ map.insert (folder_of table.old self.old) (directory, name.now) inode) }
         ensures err { OnErr result (folder_of table.new self.new ≡ folder_of table.old self.old) }
+        ensures capacity { self.new.capacity ≤ max self.old.capacity (2 * length self.new.nodes) }
     {
         table.know();
         let entry = Entry::new(directory, name, inode)?;
@@ -158,6 +160,7 @@ impl ChildList {
         requires keeps { Keeps table.old self.old }
         ensures turns { Turns table.old table.new self.old self.new }
         ensures removed { folder_of table.new self.new ≡ map.remove (folder_of table.old self.old) (directory, name.now) }
+        ensures capacity { self.new.capacity ≤ self.old.capacity }
     {
         let Some(list) = self.list else {
             return;
@@ -190,6 +193,7 @@ impl ChildList {
         ensures turns { Turns table.old table.new self.old self.new }
         ensures renamed { (inode : ℕ) → find place_cmp (directory, name.now) (entries_of table.old self.old) ≡ Some inode → folder_of table.new self.new ≡ map.insert (map.remove (folder_of table.old self.old) (directory, name.now)) (target, next.now) inode }
         ensures missing { find place_cmp (directory, name.now) (entries_of table.old self.old) ≡ None → folder_of table.new self.new ≡ folder_of table.old self.old }
+        ensures capacity { self.new.capacity ≤ self.old.capacity }
     {
         let Some(list) = self.list else {
             return;

@@ -1,9 +1,10 @@
 //! Tables of rows under small numbers: a place for each number, as long as the table has grown.
 
-ghost use Rattle.std.specs.Prelude.{◌≡◌, ◌+◌, ◌<◌, ◌≤◌, ◌^◌, vec_capacity, vec_len, length, IfOk, IsOk, IsSome, OnOk, OnErr, OnSome, None, [], ◌∷◌, replicate, slice_set, Some};
+ghost use Rattle.std.specs.Prelude.{◌≡◌, ◌+◌, ◌<◌, ◌≤◌, ◌^◌, max, vec_capacity, vec_len, length, IfOk, IsOk, IsSome, OnOk, OnErr, OnSome, None, [], ◌∷◌, replicate, slice_set, Some};
 ghost use Rattle.std.specs.Option.{option_copied};
 ghost use Rattle.qx_isolation.specs.Rows.{row_at, lowest_from, put_row};
 
+use crate::growth;
 use arrayvec::ArrayVec;
 use qx_hint::unwrap_unchecked;
 use std::alloc::{AllocError, Global};
@@ -40,14 +41,15 @@ pub fn lowest_free<T>(places: &[Option<T>], first: usize) -> usize
     places.len().max(first)
 }
 
-/// Puts a row under a number, for which the table may grow.
+/// Puts a row under a number, for which the table may grow: a full one to twice its length.
 pub fn put<T: Drop>(places: &mut Vec<Option<T>>, number: usize, row: T) -> Result<(), AllocError>
     ensures ok { OnOk result (places.new.items ≡ put_row places.old.items number row) }
     ensures err { OnErr result (places.new.items ≡ places.old.items) }
     ensures within { number < length places.old.items → IsOk result }
+    ensures most { vec_capacity places.new ≤ max (vec_capacity places.old) (vec_len places.old + max (vec_len places.old) 1) }
 {
     if number >= places.len() {
-        places.reserve(1)?;
+        growth::reserve(places, 1)?;
     }
     put_reserved(places, number, row);
     Ok(())

@@ -1,6 +1,6 @@
 //! A world that runs on with no list of its steps, and a recorder of the last ones.
 
-ghost use Rattle.std.specs.Prelude.{◌≡◌, ◌≢◌, ◌-◌, ◌++◌, ◌∷◌, ◌↔◌, [], List, Err, IfErr, IfOk, IsErrOf, IsFalse, IsOk, OnErr, OnOk, drop, find, get_or, is_some, max, take};
+ghost use Rattle.std.specs.Prelude.{◌≡◌, ◌≢◌, ◌-◌, ◌++◌, ◌∷◌, ◌↔◌, [], List, Err, IfErr, IfOk, IsErrOf, IsFalse, IsOk, OnErr, OnOk, drop, find, get_or, is_some, max, take, vec_capacity, vec_len};
 ghost use Rattle.circular_buffer.specs.Buffer.{buffer, keep_last};
 ghost use Rattle.qx_types.specs.Managers.{managers};
 ghost use Rattle.qx_types.specs.declared.step.Step.{Step};
@@ -236,6 +236,7 @@ impl Running {
         ensures run { IsOfRun self.now }
         ensures first { IfOk result (λ piece. piece.first ≡ max from (oldest self.now)) }
         ensures steps { IfOk result (λ piece. piece.steps.items ≡ take PIECE (drop (piece.first - oldest self.now) self.now.last)) }
+        ensures capacity { IfOk result (λ piece. vec_capacity piece.steps ≡ vec_len piece.steps) }
     {
         let before = self.taken.saturating_sub(self.recorder.len() as u64);
         let oldest = before.saturating_add(1);
@@ -244,15 +245,16 @@ impl Running {
         Ok(Piece { first, steps })
     }
 
-    /// Copies of the recorded steps behind the first ones, at most `PIECE`.
+    /// Copies of the recorded steps behind the first ones, at most `PIECE`, in memory for just so many.
     fn copies(&self, skipped: usize) -> Result<Vec<Recorded>, AllocError>
-        ensures { IfOk result (λ steps. steps.items ≡ take PIECE (drop skipped self.now.last)) }
+        ensures steps { IfOk result (λ steps. steps.items ≡ take PIECE (drop skipped self.now.last)) }
+        ensures capacity { IfOk result (λ steps. vec_capacity steps ≡ vec_len steps) }
     {
         let count = PIECE.min(self.recorder.len().saturating_sub(skipped));
         let mut steps = Vec::with_capacity(self.alloc, count)?;
         for number in 0..count {
             if let Some(recorded) = self.recorder.get(skipped + number) {
-                steps.push(recorded.clone()?)?;
+                steps.push_reserved(recorded.clone()?);
             }
         }
         Ok(steps)

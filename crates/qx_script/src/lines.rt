@@ -2,7 +2,7 @@ ghost use Rattle.std.specs.Prelude.{◌≡◌, ◌≤◌, ℕ, IfOk, IfSome, Lis
 ghost use Rattle.qx_types.specs.Configuration.{is_user_name};
 ghost use Rattle.qx_calls.specs.Forms.{◌then◌, end, read_form, read_words};
 ghost use Rattle.qx_script.specs.Lines.{ceiling_line, command_of, disconnect_line, do_of, erased_line, exit_line, interrupt_line, limit_line, mount_line, perform_line, prio_line, line_of_receive, pulse_line, reply_line, serve_line, show_line, spawn_line, step_in_line, trace_line, user_line, workers_line};
-ghost use Rattle.qx_words.specs.Kinds.{AProcess, AThread};
+ghost use Rattle.qx_words.specs.Kinds.{AByte, AProcess, AThread, AUser};
 
 use crate::command::Command;
 use crate::setting::{Setting, SettingName};
@@ -23,9 +23,9 @@ pub fn user<'a>(words: &[&'a [u8]]) -> Option<&'a [u8]>
     name(*word)
 }
 
-/// `ceiling USER PRIORITY`
-pub fn ceiling(users: &Users, words: &[&[u8]]) -> Option<Setting>
-    ensures setting { result ≡ read_form ceiling_line users.now (map (λ word. word.now) words.now) }
+/// `USER PRIORITY`, a setting of this name.
+fn priority_of(users: &Users, name: SettingName, words: &[&[u8]]) -> Option<Setting>
+    ensures setting { result ≡ read_words (AUser then AByte then end) (λ user prio. record { user = user; name = name; value = prio }) users.now (map (λ word. word.now) words.now) }
     ensures within { IfSome result (λ setting. (1 ≤ setting.user.0) × (setting.user.0 ≤ length users.now)) }
 {
     let [user, prio] = words else {
@@ -35,9 +35,17 @@ pub fn ceiling(users: &Users, words: &[&[u8]]) -> Option<Setting>
     let prio = byte(*prio)?;
     Some(Setting {
         user,
-        name: SettingName::Ceiling,
+        name,
         value: u32::from(prio),
     })
+}
+
+/// `ceiling USER PRIORITY`
+pub fn ceiling(users: &Users, words: &[&[u8]]) -> Option<Setting>
+    ensures setting { result ≡ read_form ceiling_line users.now (map (λ word. word.now) words.now) }
+    ensures within { IfSome result (λ setting. (1 ≤ setting.user.0) × (setting.user.0 ≤ length users.now)) }
+{
+    priority_of(users, SettingName::Ceiling, words)
 }
 
 /// `disconnect USER PRIORITY`
@@ -45,16 +53,7 @@ pub fn disconnect(users: &Users, words: &[&[u8]]) -> Option<Setting>
     ensures setting { result ≡ read_form disconnect_line users.now (map (λ word. word.now) words.now) }
     ensures within { IfSome result (λ setting. (1 ≤ setting.user.0) × (setting.user.0 ≤ length users.now)) }
 {
-    let [user, prio] = words else {
-        return None;
-    };
-    let user = users.find(*user)?;
-    let prio = byte(*prio)?;
-    Some(Setting {
-        user,
-        name: SettingName::Disconnect,
-        value: u32::from(prio),
-    })
+    priority_of(users, SettingName::Disconnect, words)
 }
 
 /// `limit USER NAME NUMBER`

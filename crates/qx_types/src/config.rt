@@ -137,13 +137,12 @@ impl Config {
     }
 
     /// The priority of a user's disconnect pulses.
+    #[tactic(auto, using(crate::proofs::LimitLemmas::limits_within))]
     pub fn disconnect_prio(&self, user: User) -> Prio
         ensures prio { result.0 ≡ (limits_of self.now user.0).disconnect }
         ensures lowest { 1 ≤ result.0 }
     {
-        let limits = self.limits(user);
-        limits.know();
-        limits.disconnect_prio()
+        self.limits(user).disconnect_prio()
     }
 
     /// The limits that stand under a user's number.

@@ -5,7 +5,7 @@
 //! - `made.rt`, `memory.rt`: things that take memory; each of their requests for it refused in turn
 //! - `files.rt`: the blocks of a file's bytes
 //! - `spellings.rt`: messages as bytes, with what they mean
-//! - `rooms.rt`: a thread's room for its replies
+//! - `rooms.rt`: a thread's room for its replies; the memory of bytes that are cut
 //! - `nodes.rt`: a node of `Queues` that comes back
 //! - `null.rt`: the null manager through `serve`
 #![tactic(auto)]

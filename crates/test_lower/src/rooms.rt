@@ -1,4 +1,5 @@
-//! A thread's room for its replies: when it stays, and what of it an answer gives back. No clause says what memory is left.
+//! A thread's room for its replies: when it stays, and what of it an answer gives back. And the memory of bytes that a recorder
+//! cuts. No clause says what memory is left.
 
 ghost use Rattle.std.specs.Prelude.{◌≡◌, ◌<◌, IfOk, IsSome};
 ghost use Rattle.qx_types.specs.declared.limits.TheConstants.Limits.{CALLS};
@@ -7,7 +8,7 @@ ghost use Rattle.qx_machine.specs.Performing.{taken_in};
 use qx_machine::{Over, Sent, Target};
 use qx_process::ThreadCell;
 use qx_rows::Reply;
-use qx_types::{Answer, Coid, Errno, Limits, Manager, MessageBytes, Prio};
+use qx_types::{Answer, Bytes, Coid, Errno, KEPT, Limits, Manager, MessageBytes, Prio};
 use std::alloc::{AllocError, Global};
 use std::test::Fail;
 use test_all_memory::take_all_memory;
@@ -122,5 +123,13 @@ fn gives_back(alloc: Global, way: Way) -> Result<bool, AllocError> {
 fn more_bytes_take_the_room_and_no_more_of_it(rt: HostRuntime) -> Result<(), Fail> {
     assert!(rt; !gives_back(rt.alloc(), Way::Few)?);
     assert!(rt; gives_back(rt.alloc(), Way::More)?);
+    Ok(())
+}
+
+#[test]
+fn cut_bytes_keep_memory_for_themselves_alone(rt: HostRuntime) -> Result<(), Fail> {
+    let mut bytes = Bytes::from_vec(vec![in rt.alloc(); 7; Limits::TRANSFER]?);
+    bytes.keep_first(KEPT);
+    assert!(rt; bytes.into_vec().capacity() == KEPT);
     Ok(())
 }

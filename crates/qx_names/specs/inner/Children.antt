@@ -24,16 +24,18 @@ abbrev pub count_to : Place → List Entry → ℕ
 count_to place [] = 0
 count_to place (entry ∷ entries) = if is_lt (place_cmp place entry.0) then 0 else suc (count_to place entries)
 
--- the entries of all directories, one directory's behind another's: the number of the list, none where there is no entry, and the nodes of the index
+-- the entries of all directories, one directory's behind another's: the number of the list, none where there is no entry, the nodes of
+-- the index, and for how many it has memory
 pub record Children : Type 0 where
   pub list : Option ℕ
   pub nodes : List ℕ
+  pub capacity : ℕ
 
 abbrev pub children_code : Coded Children
-children_code = code_by (Option ℕ × List ℕ) (coded× (coded_option coded_ℕ) (coded_list coded_ℕ)) (λ c. (c.list, c.nodes)) (λ p. record { list = p.0; nodes = p.1 }) (λ _. refl)
+children_code = code_by (Option ℕ × (List ℕ × ℕ)) (coded× (coded_option coded_ℕ) (coded× (coded_list coded_ℕ) coded_ℕ)) (λ c. (c.list, (c.nodes, c.capacity))) (λ p. record { list = p.0; nodes = p.1.0; capacity = p.1.1 }) (λ _. refl)
 
 abbrev pub no_children : Children
-no_children = record { list = None; nodes = [] }
+no_children = record { list = None; nodes = []; capacity = 0 }
 
 -- ---- what the lists tell
 

@@ -11,5 +11,5 @@ returns-clause-named c =
     let few : length (joined from) < 2 ^ 16 = few_bytes from c.know.ensures.rest in
     let from_is : components_of (joined from) ≡ from = rw (← c.in_ok-from-inside.ensures.joined) c.in_ok-from-inside.ensures.read_back in
     let to_is : components_of (joined to) ≡ to = rw (← c.in_ok-to.ensures.joined) c.in_ok-to.ensures.read_back in
-    let whole : c.from_vec.result ≡ to_le_bytes w16 (length (joined from)) ++ (joined from ++ joined to) = search rules in
+    let whole : c.with_piece.result.items ≡ to_le_bytes w16 (length (joined from)) ++ (joined from ++ joined to) = search rules in
     rw whole (names_two from to c.know.ensures.rest from_is to_is)

@@ -1,6 +1,6 @@
 use Rattle.std.proofs.Common.{◌≡◌, ◌≢◌, inl, ℕ, None, Some, insert, length, ap, arith, subst, sym, ◌∙◌}
 use Rattle.std.specs.FinMap as map
-use Rattle.std.specs.Prelude.{map as mapped}
+use Rattle.std.specs.Prelude.{map as mapped, vec_capacity}
 use Rattle.std.proofs.lemmas.List.{length-map}
 use Rattle.qx_lists.specs.Table.{Table}
 use Rattle.qx_lists.proofs.MapLemmas.{get-insert_other, get-insert_same}
@@ -34,13 +34,13 @@ nodes : (c : goal.In_ok-insert) → c.reserve.new.table.items ≡ c.args.self.no
 nodes c = c.reserve.ensures.items ∙ ap (λ (children : Children). children.nodes) c.self.view_is
 
 abbrev after : goal.In_ok-insert → Children
-after c = record { list = Some c.in-Some.list; nodes = insert c.args.self.now.nodes c.place_behind-place.result c.in_ok-node.node }
+after c = record { list = Some c.in-Some.list; nodes = insert c.args.self.now.nodes c.place_behind-place.result c.in_ok-node.node; capacity = vec_capacity c.insert.new.self }
 
-became : (c : goal.In_ok-insert) → after c ≡ record { list = c.self.inside.list; nodes = c.insert.new.self.items }
+became : (c : goal.In_ok-insert) → after c ≡ record { list = c.self.inside.list; nodes = c.insert.new.self.items; capacity = vec_capacity c.insert.new.self }
 became c =
     let items = sym (c.in_ok-insert.ensures.items ∙ ap (λ xs. insert xs c.place_behind-place.result c.in_ok-node.node) (nodes c)) in
     let list = sym c.in-Some.is in
-    λ i. record { list = list i; nodes = items i }
+    λ i. record { list = list i; nodes = items i; capacity = vec_capacity c.insert.new.self }
 
 lists : (c : goal.In_ok-insert) (other : ℕ) → other ≢ c.in-Some.list → map.get c.link_at.new.table.lists other ≡ map.get c.args.table.now.lists other
 lists c other differs =
@@ -69,9 +69,9 @@ place c = c.place_behind-place.ensures ∙ ap (λ xs. count_to (c.args.directory
 pub returns-clause-turns : goal.returns-clause-turns
 returns-clause-turns c =
     subst (Turns c.args.table.now c.link_at.new.table c.args.self.now) (became c)
-    (put_turns c.args.table.now c.link_at.new.table c.args.self.now c.requires.keeps c.know.ensures.there c.in-Some.list c.in_ok-node.node c.place_behind-place.result (lists c) (c.args.directory, c.args.name.now) c.args.inode (place c) c.requires.new (inl (was c)) (fresh c) (here c) (values c))
+    (put_turns c.args.table.now c.link_at.new.table c.args.self.now c.requires.keeps c.know.ensures.there c.in-Some.list c.in_ok-node.node c.place_behind-place.result (lists c) (c.args.directory, c.args.name.now) c.args.inode (place c) c.requires.new (inl (was c)) (fresh c) (here c) (values c) (vec_capacity c.insert.new.self))
 
 pub returns-clause-ok : goal.returns-clause-ok
 returns-clause-ok c =
     ap (folder_of c.link_at.new.table) (sym (became c))
-    ∙ put_folder c.args.table.now c.link_at.new.table c.args.self.now c.requires.keeps c.know.ensures.there c.in-Some.list c.in_ok-node.node c.place_behind-place.result (lists c) (c.args.directory, c.args.name.now) c.args.inode (place c) c.requires.new (inl (was c)) (fresh c) (here c) (values c)
+    ∙ put_folder c.args.table.now c.link_at.new.table c.args.self.now c.requires.keeps c.know.ensures.there c.in-Some.list c.in_ok-node.node c.place_behind-place.result (lists c) (c.args.directory, c.args.name.now) c.args.inode (place c) c.requires.new (inl (was c)) (fresh c) (here c) (values c) (vec_capacity c.insert.new.self)

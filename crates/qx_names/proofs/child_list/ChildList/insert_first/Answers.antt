@@ -1,7 +1,7 @@
 use Rattle.std.proofs.Common.{◌≡◌, ◌≢◌, ◌++◌, ◌∷◌, inr, ℕ, [], None, Some, insert, is_some, unwrap_or, ap, subst, sym, ◌∙◌}
 use Rattle.std.specs.FinMap as map
 use Rattle.std.specs.FinMap.Entries.{find}
-use Rattle.std.specs.Prelude.{map as mapped}
+use Rattle.std.specs.Prelude.{map as mapped, vec_capacity}
 use Rattle.qx_names.specs.inner.Folders.{place_cmp}
 use Rattle.qx_lists.specs.Table.{Table, nodes_of}
 use Rattle.qx_lists.proofs.MapLemmas.{get-insert_other, get-insert_same}
@@ -20,15 +20,15 @@ empty : (c : goal.After-drop-self-inside) → c.args.self.now.nodes ≡ []
 empty c = c.requires.keeps.none c.requires.none
 
 abbrev after : goal.After-drop-self-inside → Children
-after c = record { list = Some c.in_ok-list.list; nodes = insert c.args.self.now.nodes 0 c.in_ok-node.node }
+after c = record { list = Some c.in_ok-list.list; nodes = insert c.args.self.now.nodes 0 c.in_ok-node.node; capacity = vec_capacity c.push_reserved.new.self }
 
 one : (c : goal.After-drop-self-inside) → insert c.args.self.now.nodes 0 c.in_ok-node.node ≡ c.in_ok-node.node ∷ []
 one c = ap (λ nodes. insert nodes 0 c.in_ok-node.node) (empty c)
 
-became : (c : goal.After-drop-self-inside) → after c ≡ record { list = Some c.in_ok-list.list; nodes = c.push_reserved.new.self.items }
+became : (c : goal.After-drop-self-inside) → after c ≡ record { list = Some c.in_ok-list.list; nodes = c.push_reserved.new.self.items; capacity = vec_capacity c.push_reserved.new.self }
 became c =
     let items = one c ∙ sym (c.push_reserved.ensures.items ∙ ap (λ nodes. nodes ++ c.in_ok-node.node ∷ []) c.in_ok-index.ensures.items) in
-    λ i. record { list = Some c.in_ok-list.list; nodes = items i }
+    λ i. record { list = Some c.in_ok-list.list; nodes = items i; capacity = vec_capacity c.push_reserved.new.self }
 
 lists : (c : goal.After-drop-self-inside) (other : ℕ) → other ≢ c.in_ok-list.list → map.get c.push_back.new.table.lists other ≡ map.get c.args.table.now.lists other
 lists c other differs =
@@ -72,9 +72,9 @@ absent c = ap (λ nodes. find place_cmp (c.args.directory, c.args.name.now) (map
 pub returns-clause-turns : goal.returns-clause-turns
 returns-clause-turns c =
     subst (Turns c.args.table.now c.push_back.new.table c.args.self.now) (became c)
-    (put_turns c.args.table.now c.push_back.new.table c.args.self.now c.requires.keeps c.know.ensures.there c.in_ok-list.list c.in_ok-node.node 0 (lists c) (c.args.directory, c.args.name.now) c.args.inode (place c) (absent c) (inr (c.requires.none, was_new c)) (fresh c) (here c) (values c))
+    (put_turns c.args.table.now c.push_back.new.table c.args.self.now c.requires.keeps c.know.ensures.there c.in_ok-list.list c.in_ok-node.node 0 (lists c) (c.args.directory, c.args.name.now) c.args.inode (place c) (absent c) (inr (c.requires.none, was_new c)) (fresh c) (here c) (values c) (vec_capacity c.push_reserved.new.self))
 
 pub returns-clause-ok : goal.returns-clause-ok
 returns-clause-ok c =
     ap (folder_of c.push_back.new.table) (sym (became c))
-    ∙ put_folder c.args.table.now c.push_back.new.table c.args.self.now c.requires.keeps c.know.ensures.there c.in_ok-list.list c.in_ok-node.node 0 (lists c) (c.args.directory, c.args.name.now) c.args.inode (place c) (absent c) (inr (c.requires.none, was_new c)) (fresh c) (here c) (values c)
+    ∙ put_folder c.args.table.now c.push_back.new.table c.args.self.now c.requires.keeps c.know.ensures.there c.in_ok-list.list c.in_ok-node.node 0 (lists c) (c.args.directory, c.args.name.now) c.args.inode (place c) (absent c) (inr (c.requires.none, was_new c)) (fresh c) (here c) (values c) (vec_capacity c.push_reserved.new.self)

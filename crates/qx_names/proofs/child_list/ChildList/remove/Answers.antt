@@ -1,6 +1,6 @@
 use Rattle.std.proofs.Common.{◌≡◌, ◌==◌, ◌<◌, ℕ, Bool, true, false, List, [], Some, length, ap, arith, sym, ◌∙◌}
 use Rattle.std.specs.FinMap.Entries.{find}
-use Rattle.std.specs.Prelude.{map as mapped, remove}
+use Rattle.std.specs.Prelude.{map as mapped, remove, vec_capacity}
 use Rattle.std.proofs.lemmas.Bool.{eqb-false, eqb-true}
 use Rattle.std.proofs.lemmas.List.{nil_from_length}
 use Rattle.qx_names.specs.inner.Folders.{place_cmp}
@@ -58,11 +58,11 @@ returns-else-is_empty-clause-turns c =
     freed-turns c.args.table.now c.args.self.now c.requires.keeps c.in-Some.list (ap (λ (children : Children). children.list) (sym c.self.view_is) ∙ c.in-Some.is) c.know.ensures.there c.know.ensures.distinct c.know.ensures.apart (c.args.directory, c.args.name.now) c.in-Some-position.ensures.found.0 c.in-Some-position.place c.remove-node.result
     (place-node c.args.table.now c.args.self.now c.in-Some-position.place ((c.args.directory, c.args.name.now), c.in-Some-position.ensures.found.0) c.in-Some-position.ensures.found.1 c.self.inside.index.items (ap (λ (children : Children). children.nodes) c.self.view_is) c.remove-node.result c.remove-node.ensures.value)
     c.in-Some-position.ensures.found.1 c.unlink.new.table c.free_node.new.self c.unlink.ensures.unlinked c.free_node.ensures.freed
-    (record { list = c.self.inside.list; nodes = c.remove-node.new.self.items }) (c.remove-node.ensures.items ∙ ap (λ (children : Children). remove children.nodes c.in-Some-position.place) c.self.view_is) c.in-Some.is (some_left c.remove-node.new.self.items _ c.is_empty.result c.remove-node.new.self.ok.0 c.is_empty.ensures c.if-is_empty.false)
+    (record { list = c.self.inside.list; nodes = c.remove-node.new.self.items; capacity = vec_capacity c.remove-node.new.self }) (c.remove-node.ensures.items ∙ ap (λ (children : Children). remove children.nodes c.in-Some-position.place) c.self.view_is) c.in-Some.is (some_left c.remove-node.new.self.items _ c.is_empty.result c.remove-node.new.self.ok.0 c.is_empty.ensures c.if-is_empty.false)
 
 pub returns-else-is_empty-clause-removed : goal.returns-else-is_empty-clause-removed
 returns-else-is_empty-clause-removed c =
     freed-folder c.args.table.now c.args.self.now c.requires.keeps c.in-Some.list (ap (λ (children : Children). children.list) (sym c.self.view_is) ∙ c.in-Some.is) c.know.ensures.there c.know.ensures.distinct c.know.ensures.apart (c.args.directory, c.args.name.now) c.in-Some-position.ensures.found.0 c.in-Some-position.place c.remove-node.result
     (place-node c.args.table.now c.args.self.now c.in-Some-position.place ((c.args.directory, c.args.name.now), c.in-Some-position.ensures.found.0) c.in-Some-position.ensures.found.1 c.self.inside.index.items (ap (λ (children : Children). children.nodes) c.self.view_is) c.remove-node.result c.remove-node.ensures.value)
     c.in-Some-position.ensures.found.1 c.unlink.new.table c.free_node.new.self c.unlink.ensures.unlinked c.free_node.ensures.freed
-    (record { list = c.self.inside.list; nodes = c.remove-node.new.self.items }) (c.remove-node.ensures.items ∙ ap (λ (children : Children). remove children.nodes c.in-Some-position.place) c.self.view_is)
+    (record { list = c.self.inside.list; nodes = c.remove-node.new.self.items; capacity = vec_capacity c.remove-node.new.self }) (c.remove-node.ensures.items ∙ ap (λ (children : Children). remove children.nodes c.in-Some-position.place) c.self.view_is)

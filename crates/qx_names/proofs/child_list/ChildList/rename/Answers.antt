@@ -1,6 +1,6 @@
 use Rattle.std.proofs.Common.{◌≡◌, true, None, Some, insert, length, ap, arith, is_some, subst, sym, ◌∙◌}
 use Rattle.std.specs.FinMap as map
-use Rattle.std.specs.Prelude.{map as mapped, remove, slice_get}
+use Rattle.std.specs.Prelude.{map as mapped, remove, slice_get, vec_capacity}
 use Rattle.std.proofs.lemmas.List.{length-map}
 use Rattle.qx_lists.specs.Table.{Table, with_nodes, with_value}
 use Rattle.qx_lists.proofs.MapLemmas.{get-insert_same}
@@ -64,10 +64,10 @@ items c =
     ∙ ap (λ xs. insert xs c.place_behind-place.result c.remove-node.result) (c.remove-node.ensures.items ∙ ap (λ (children : Children). remove children.nodes c.in-Some-position.place) c.self.view_is)
 
 abbrev after : goal.After-insert-room → Children
-after c = record { list = Some c.in-Some.list; nodes = insert (remove c.args.self.now.nodes c.in-Some-position.place) c.place_behind-place.result c.remove-node.result }
+after c = record { list = Some c.in-Some.list; nodes = insert (remove c.args.self.now.nodes c.in-Some-position.place) c.place_behind-place.result c.remove-node.result; capacity = vec_capacity c.insert-room.new.self }
 
-became : (c : goal.After-insert-room) → after c ≡ record { list = c.self.inside.list; nodes = c.insert-room.new.self.items }
-became c = let lists = sym c.in-Some.is in let nodes = sym (items c) in λ i. record { list = lists i; nodes = nodes i }
+became : (c : goal.After-insert-room) → after c ≡ record { list = c.self.inside.list; nodes = c.insert-room.new.self.items; capacity = vec_capacity c.insert-room.new.self }
+became c = let lists = sym c.in-Some.is in let nodes = sym (items c) in λ i. record { list = lists i; nodes = nodes i; capacity = vec_capacity c.insert-room.new.self }
 
 pub returns-clause-turns : goal.returns-clause-turns
 returns-clause-turns c =
@@ -88,7 +88,7 @@ returns-clause-turns c =
     (moved_turns c.args.table.now c.args.self.now c.requires.keeps c.in-Some.list (ap (λ (children : Children). children.list) (sym c.self.view_is) ∙ c.in-Some.is) c.know.ensures.there c.know.ensures.distinct c.know.ensures.apart (c.args.directory, c.args.name.now) (c.args.target, c.args.next.now) c.in-Some-position.ensures.found.0 c.in-Some-position.place c.remove-node.result
     (place-node c.args.table.now c.args.self.now c.in-Some-position.place ((c.args.directory, c.args.name.now), c.in-Some-position.ensures.found.0) c.in-Some-position.ensures.found.1 c.self.inside.index.items (ap (λ (children : Children). children.nodes) c.self.view_is) c.remove-node.result c.remove-node.ensures.value)
     c.in-Some-position.ensures.found.1 c.requires.new c.unlink.new.table c.unlink.ensures.unlinked
-    c.place_behind-place.result counted c.link_at.new.table linked)
+    c.place_behind-place.result counted c.link_at.new.table linked (vec_capacity c.insert-room.new.self))
 
 pub returns-clause-renamed : goal.returns-clause-renamed
 returns-clause-renamed c inode there =
@@ -109,7 +109,7 @@ returns-clause-renamed c inode there =
     ∙ moved_folder c.args.table.now c.args.self.now c.requires.keeps c.in-Some.list (ap (λ (children : Children). children.list) (sym c.self.view_is) ∙ c.in-Some.is) c.know.ensures.there c.know.ensures.distinct c.know.ensures.apart (c.args.directory, c.args.name.now) (c.args.target, c.args.next.now) c.in-Some-position.ensures.found.0 c.in-Some-position.place c.remove-node.result
     (place-node c.args.table.now c.args.self.now c.in-Some-position.place ((c.args.directory, c.args.name.now), c.in-Some-position.ensures.found.0) c.in-Some-position.ensures.found.1 c.self.inside.index.items (ap (λ (children : Children). children.nodes) c.self.view_is) c.remove-node.result c.remove-node.ensures.value)
     c.in-Some-position.ensures.found.1 c.requires.new c.unlink.new.table c.unlink.ensures.unlinked
-    c.place_behind-place.result counted c.link_at.new.table linked
+    c.place_behind-place.result counted c.link_at.new.table linked (vec_capacity c.insert-room.new.self)
     ∙ ap (map.insert (map.remove (folder_of c.args.table.now c.args.self.now) (c.args.directory, c.args.name.now)) (c.args.target, c.args.next.now))
     (same_inode _ _ (sym (find_stands (c.args.directory, c.args.name.now) (entries_of c.args.table.now c.args.self.now) c.in-Some-position.place c.in-Some-position.ensures.found.0 c.requires.keeps.rising c.in-Some-position.ensures.found.1) ∙ there))
 
