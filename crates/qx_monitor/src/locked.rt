@@ -2,7 +2,7 @@
 
 ghost use Rattle.std.specs.Prelude.{◌≡◌, ◌==◌, ◌&&◌, ◌⊎◌, None, Some, true, false, not, IfOk, OnErr, is_some, nat_le, option_map};
 ghost use Rattle.qx_types.specs.declared.names.Thread.{Thread};
-ghost use Rattle.qx_monitor.specs.Awaits.{is_to_come, is_to_come_of, looking_after, woken};
+ghost use Rattle.qx_monitor.specs.Awaits.{is_to_come, is_to_come_of, looking_less, looking_more, woken};
 ghost use Rattle.qx_monitor.specs.Owed.{AreReleased, Came, IfTook, copied, item_taken, next_item};
 ghost use Rattle.qx_types.specs.declared.step.Step.{Step};
 ghost use Rattle.qx_machine.specs.Machine as machine;
@@ -14,7 +14,7 @@ ghost use Rattle.qx_monitor.specs.declared.waits.Awaited.{Awaited};
 ghost use Rattle.qx_monitor.specs.declared.waits.Coming.{Coming};
 
 use crate::owed::{Released, Short, WasStopped};
-use crate::waits::{Awaited, Coming, ThreadSet, Waiting, Waits, Woken};
+use crate::waits::{Awaited, Coming, Looks, ThreadSet, Waits, Woken};
 use qx_types::{Item, MessageBytes, Outcome, Proc, Step, Thread, User, Worker};
 use qx_world::{UnderLock, Unstored, WorkRef, World};
 
@@ -132,12 +132,41 @@ impl<S: UnderLock> Locked<S> {
         }
     }
 
+    /// A thread begins to look for what it waits for. A worker counts as one that looks for an item until it has the lock again.
+    pub(crate) fn looks(&mut self, awaited: Awaited) -> Looks
+        ensures awaited { result.awaited ≡ awaited }
+        ensures looking { self.new.looking ≡ looking_more awaited self.old.looking }
+        ensures under { self.new.under ≡ self.old.under }
+        ensures answers { self.new.answers ≡ self.old.answers }
+        ensures pulses { self.new.pulses ≡ self.old.pulses }
+        ensures stopped { self.new.is_stopped ≡ self.old.is_stopped }
+    {
+        if let Awaited::Item = awaited {
+            self.looking = self.looking.saturating_add(1);
+        }
+        Looks { awaited }
+    }
+
+    /// A thread that looked has the lock again, whatever it finds.
+    pub(crate) fn found(&mut self, looks: Looks)
+        ensures looking { self.new.looking ≡ looking_less looks.awaited self.old.looking }
+        ensures under { self.new.under ≡ self.old.under }
+        ensures answers { self.new.answers ≡ self.old.answers }
+        ensures pulses { self.new.pulses ≡ self.old.pulses }
+        ensures stopped { self.new.is_stopped ≡ self.old.is_stopped }
+    {
+        let Looks { awaited } = looks;
+        if let Awaited::Item = awaited {
+            self.looking = self.looking.saturating_sub(1);
+        }
+    }
+
     /// Whether what is awaited has yet to come, unless the server was stopped. If it is of a thread, it is marked that a client
-    /// waits for it. A worker counts as one that looks for an item from where it begins to wait until it has the lock again.
-    pub(crate) fn waits_for(&mut self, awaited: Awaited, waiting: Waiting) -> bool
+    /// waits for it.
+    pub(crate) fn waits_for(&mut self, awaited: Awaited) -> bool
         ensures told { result ≡ (not self.old.is_stopped && is_to_come (S.world_of self.old.under) awaited) }
         ensures still { result ≡ (not self.new.is_stopped && is_to_come (S.world_of self.new.under) awaited) }
-        ensures looking { self.new.looking ≡ looking_after waiting awaited self.old.looking }
+        ensures looking { self.new.looking ≡ self.old.looking }
         ensures answer { (thread : Thread) → awaited ≡ Awaited.OfThread Coming.Answer thread → result ≡ true → is_awaited self.new.answers thread ≡ true }
         ensures pulse { (thread : Thread) → awaited ≡ Awaited.OfThread Coming.Pulse thread → result ≡ true → is_awaited self.new.pulses thread ≡ true }
         ensures other_answers { (thread : Thread) → is_awaited self.old.answers thread ≡ true → is_awaited self.new.answers thread ≡ true }
@@ -145,13 +174,6 @@ impl<S: UnderLock> Locked<S> {
         ensures under { self.new.under ≡ self.old.under }
         ensures stopped { self.new.is_stopped ≡ self.old.is_stopped }
     {
-        if let Awaited::Item = awaited {
-            match waiting {
-                Waiting::Begins => self.looking = self.looking.saturating_add(1),
-                Waiting::Spun => self.looking = self.looking.saturating_sub(1),
-                Waiting::Slept => {}
-            }
-        }
         if self.is_stopped || !self.is_to_come(awaited) {
             return false;
         }
