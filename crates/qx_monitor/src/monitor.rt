@@ -1,6 +1,6 @@
 //! One lock, and where threads sleep.
 
-ghost use Rattle.std.specs.Prelude.{◌≡◌, ◌≢◌, ◌&&◌, ◌⊎◌, None, Some, false, is_ok, is_some, true, not, IfErr, IfOk, MatchBool, OnErr};
+ghost use Rattle.std.specs.Prelude.{◌≡◌, ◌≢◌, ◌&&◌, ◌⊎◌, None, Some, false, is_ok, is_some, true, not, IfErr, IfOk, MatchBool, OnErr, vec_capacity};
 ghost use Rattle.std.specs.Sync.Mutex.{mutex_guard_value};
 ghost use Rattle.qx_types.specs.declared.names.Thread.{Thread};
 ghost use Rattle.qx_types.specs.declared.outcome.Outcome.{Outcome};
@@ -9,7 +9,7 @@ ghost use Rattle.qx_machine.specs.Machine as machine;
 ghost use Rattle.qx_world.specs.Seats.{Works, world_then};
 ghost use Rattle.qx_world.specs.Steps.{held_work, IsStale};
 ghost use Rattle.qx_monitor.specs.Awaits.{is_to_come, is_to_come_of, looking_more, woken};
-ghost use Rattle.qx_monitor.specs.Owed.{AreReleased, IfHandled, IfSent, IfTook, IfUnsent, copied, next_item};
+ghost use Rattle.qx_monitor.specs.Owed.{AreReleased, HasRoom, IfHandled, IfSent, IfShort, IfTook, IfUnsent, copied, kept_by, next_item};
 ghost use Rattle.qx_monitor.specs.Waits.{is_awaited};
 ghost use Rattle.qx_monitor.specs.declared.locked.Received.{Received};
 ghost use Rattle.qx_monitor.specs.declared.monitor.Called.{Called};
@@ -284,20 +284,29 @@ impl<S: UnderLock> Monitor<S> {
         (result, released, wake)
     }
 
-    /// A worker receives the first item of the line that is next; with which worker to wake, where another item stands in a line.
+    /// Memory for a worker's copies of what it receives, none yet.
+    pub fn memory(&self) -> Vec<u8> {
+        Vec::new(*self.bells.each.allocator())
+    }
+
+    /// A worker receives the first item of the line that is next, copied into its memory; with which worker to wake, where another
+    /// item stands in a line. A copy that fits into that memory is not refused.
     pub fn receive(
         &self,
         locked: &mut Locked<S>,
         seat: &mut S::Seat,
         worker: Worker,
+        memory: &mut Vec<u8>,
     ) -> (Received, Wake)
         ensures seat { Works S.adds S.keeps worker.0 seat.old seat.new }
         ensures took { IfTook result.0 (λ item held. next_item (S.world_of locked.old.under) worker (S.next_of locked.old.under) ≡ Some item) }
         ensures copy { IfTook result.0 (λ item held. held_work (S.world_of locked.new.under) worker.0 ≡ Some (copied held)) }
         ensures ended { result.0 ≡ Received.Ended → (next_item (S.world_of locked.old.under) worker (S.next_of locked.old.under) ≡ None) ⊎ (held_work (S.world_of locked.new.under) worker.0 ≡ None) }
+        ensures short { IfShort result.0 ((S.world_of locked.new.under ≡ S.world_of locked.old.under) ⊎ (HasRoom (held_work (S.world_of locked.new.under) worker.0) (vec_capacity memory.old) → ⊥)) }
+        ensures memory { IfTook result.0 (λ item held. vec_capacity memory.new ≡ kept_by (Some (copied held)) (vec_capacity memory.old)) }
         ensures wakes { result.1.who ≡ woken (S.world_of locked.new.under) locked.old.looking }
     {
-        let received = locked.receive(seat, worker);
+        let received = locked.receive(seat, worker, memory);
         let wake = self.woken(locked);
         (received, wake)
     }
