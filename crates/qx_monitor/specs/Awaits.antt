@@ -40,3 +40,7 @@ looking_less (OfThread what thread) looking = looking
 -- which worker an item in a line wakes, where so many workers look for one
 abbrev pub woken : World → ℕ → Woken
 woken w looking = if is_to_come w Item then Nobody else if looking == 0 then Sleeping else Looking
+
+-- which worker is woken by a client that spun in vain: one that sleeps, where an item stands still that was left to one that looks
+abbrev pub overdue : World → ℕ → Woken
+overdue w looking = if is_to_come w Item then Nobody else if looking == 0 then Nobody else Sleeping

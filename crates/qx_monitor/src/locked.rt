@@ -2,7 +2,7 @@
 
 ghost use Rattle.std.specs.Prelude.{◌≡◌, ◌==◌, ◌&&◌, ◌⊎◌, None, Some, true, false, not, IfOk, IsOk, OnErr, OnOk, is_some, nat_le, option_map, vec_capacity};
 ghost use Rattle.qx_types.specs.declared.names.Thread.{Thread};
-ghost use Rattle.qx_monitor.specs.Awaits.{is_to_come, is_to_come_of, looking_less, looking_more, woken};
+ghost use Rattle.qx_monitor.specs.Awaits.{is_to_come, is_to_come_of, looking_less, looking_more, overdue, woken};
 ghost use Rattle.qx_monitor.specs.Owed.{AreReleased, Came, HasRoom, IfShort, IfTook, copied, item_taken, kept_by, next_item};
 ghost use Rattle.qx_types.specs.declared.step.Step.{Step};
 ghost use Rattle.qx_machine.specs.Machine as machine;
@@ -218,6 +218,17 @@ impl<S: UnderLock> Locked<S> {
             Woken::Sleeping
         } else {
             Woken::Looking
+        }
+    }
+
+    /// Which worker is woken by a client that spun in vain: one that sleeps, where an item stands still that was left to one that
+    /// looks. The kernel may have taken the processor from that one.
+    pub(crate) fn overdue(&self) -> Woken
+        ensures { result ≡ overdue (S.world_of self.now.under) self.now.looking }
+    {
+        match self.woken() {
+            Woken::Looking => Woken::Sleeping,
+            Woken::Nobody | Woken::Sleeping => Woken::Nobody,
         }
     }
 

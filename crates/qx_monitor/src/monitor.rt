@@ -19,7 +19,7 @@ ghost use Rattle.qx_monitor.specs.declared.waits.Coming.{Coming};
 
 use crate::locked::{Locked, Received};
 use crate::owed::{Begun, Released, Short, Wake};
-use crate::spinner::{LOCK_TRIES, Spinner, pause};
+use crate::spinner::{LOCK_TRIES, SpinEnd, Spinner, pause};
 use crate::waits::{Awaited, Coming, Due, Looks, THREADS, ThreadSet, Woken, place_of};
 use qx_types::{Outcome, Request, Step, Thread, Worker};
 use qx_world::{PerformFault, UnderLock, Unstored, Work};
@@ -162,7 +162,8 @@ impl<S: UnderLock> Monitor<S> {
     }
 
     /// Takes the lock once what is awaited came, or the server was stopped. A thread that began to wait spins until then, and sleeps
-    /// where that was in vain. One that comes too late for what was there, or for what it was told of, spins once more.
+    /// where that was in vain. One that comes too late for what was there, or for what it was told of, spins once more. A client
+    /// that spun in vain wakes a worker for an item that is overdue.
     pub fn lock_for<R: Wait>(
         &self,
         rt: &R,
@@ -173,11 +174,15 @@ impl<S: UnderLock> Monitor<S> {
     {
         let Begun { looks, seen } = begun;
         let awaited = looks.awaited;
-        let (mut guard, is_late) = self.spin(rt, spinner, looks, seen);
-        if is_late {
+        let (mut guard, mut missed) = self.spin(rt, spinner, looks, seen);
+        if let Some(SpinEnd::Told) = missed {
             let Begun { looks, seen } = self.begin(&mut guard, awaited);
             drop(guard);
-            (guard, _) = self.spin(rt, spinner, looks, seen);
+            (guard, missed) = self.spin(rt, spinner, looks, seen);
+        }
+        if let Some(SpinEnd::InVain) = missed {
+            let who = guard.overdue();
+            self.wake_worker(Wake { who });
         }
         let bell = self.bell(awaited);
         'sleeping: for _ in rt.forever() {
@@ -208,29 +213,29 @@ impl<S: UnderLock> Monitor<S> {
         self.lock_for(rt, spinner, begun)
     }
 
-    /// Spins, and takes the lock. Whether the thread came too late: what it waits for was there, or was told of, and is there no
-    /// longer.
+    /// Spins, and takes the lock. None where what the thread waits for is there; else how the spin ended. One that was told, or found
+    /// it there before, came too late.
     fn spin<R: Wait>(
         &self,
         rt: &R,
         spinner: &mut Spinner,
         looks: Looks,
         seen: Option<u64>,
-    ) -> (MutexGuard<'_, Locked<S>>, bool) {
+    ) -> (MutexGuard<'_, Locked<S>>, Option<SpinEnd>) {
         let awaited = looks.awaited;
-        let told = match seen {
-            None => true,
+        let end = match seen {
+            None => SpinEnd::Told,
             Some(seen) => spinner.spin(self.watched(awaited), seen),
         };
         let mut guard = self.lock(rt);
         guard.found(looks);
-        let waits = guard.waits_for(awaited);
-        if seen.is_some() {
-            if told && !waits {
-                spinner.paid();
-            }
+        if guard.waits_for(awaited) {
+            return (guard, Some(end));
         }
-        (guard, told && waits)
+        if let (Some(_), SpinEnd::Told) = (seen, end) {
+            spinner.paid();
+        }
+        (guard, None)
     }
 
     /// A thread calls, or the step comes back. Of a call that was sent, a worker is woken, and the thread begins to wait for its
