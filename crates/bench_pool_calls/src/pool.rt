@@ -135,7 +135,7 @@ pub fn run_service<R: Threads + Wait + Clock + Sync>(
     let mut recorded: usize = 0;
     let mut next: u64 = 0;
     for _ in rt.forever() {
-        let piece = pool.server.recent(rt, next)?;
+        let piece = pool.server.look(rt).under().recent(next)?;
         if piece.steps.is_empty() {
             break;
         }
@@ -191,13 +191,14 @@ fn run_at_seats<J: OfRun + Send + Sync, R: Threads + Wait + Clock + Sync>(
         seats.push(seat)?;
     }
     let mut known: usize = 0;
-    for seat in &seats {
-        known = known.saturating_add(usize::from(pool.server.holds(rt, seat)));
-    }
-    let piece = pool.server.recent(rt, 0)?;
-    ensure!(room == 0 || !piece.steps.is_empty(), "no step is recorded");
     let Pool { server, .. } = pool;
-    let world = server.into_world();
+    let tied = server.into_under();
+    for seat in &seats {
+        known = known.saturating_add(usize::from(tied.holds(seat)));
+    }
+    let piece = tied.recent(0)?;
+    ensure!(room == 0 || !piece.steps.is_empty(), "no step is recorded");
+    let world = tied.into_world();
     ensure!(world.next_manager().is_none(), "an item stands in a line");
     Ok(all.with(known))
 }

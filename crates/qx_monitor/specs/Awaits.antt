@@ -10,8 +10,6 @@ use Rattle.qx_monitor.specs.declared.waits.Awaited.{Awaited}
 use Rattle.qx_monitor.specs.declared.waits.Awaited.TheVariants.{Item, OfThread}
 use Rattle.qx_monitor.specs.declared.waits.Coming.{Coming}
 use Rattle.qx_monitor.specs.declared.waits.Coming.TheVariants.{Answer, Pulse}
-use Rattle.qx_monitor.specs.declared.waits.Waiting.{Waiting}
-use Rattle.qx_monitor.specs.declared.waits.Waiting.TheVariants.{Begins, Spun}
 use Rattle.qx_monitor.specs.declared.waits.Woken.{Woken}
 use Rattle.qx_monitor.specs.declared.waits.Woken.TheVariants.{Looking, Nobody, Sleeping}
 
@@ -29,12 +27,20 @@ abbrev pub is_to_come : World → Awaited → Bool
 is_to_come w Item = not (is_some (next_manager w))
 is_to_come w (OfThread what thread) = is_to_come_of w what thread
 
--- how many workers look for an item without the lock, where so many did and a thread has come so far in waiting for this
-abbrev pub looking_after : Waiting → Awaited → ℕ → ℕ
-looking_after Begins Item looking = min (looking + 1) (2 ^ 32 - 1)
-looking_after Spun Item looking = looking - 1
-looking_after waiting awaited looking = looking
+-- how many workers look for an item without the lock, where so many did and a thread begins to look for this
+abbrev pub looking_more : Awaited → ℕ → ℕ
+looking_more Item looking = min (looking + 1) (2 ^ 32 - 1)
+looking_more (OfThread what thread) looking = looking
+
+-- and where it has the lock again
+abbrev pub looking_less : Awaited → ℕ → ℕ
+looking_less Item looking = looking - 1
+looking_less (OfThread what thread) looking = looking
 
 -- which worker an item in a line wakes, where so many workers look for one
 abbrev pub woken : World → ℕ → Woken
 woken w looking = if is_to_come w Item then Nobody else if looking == 0 then Sleeping else Looking
+
+-- which worker is woken by a client that spun in vain: one that sleeps, where an item stands still that was left to one that looks
+abbrev pub overdue : World → ℕ → Woken
+overdue w looking = if is_to_come w Item then Nobody else if looking == 0 then Nobody else Sleeping

@@ -1,5 +1,6 @@
 -- What is owed once a step was taken under the lock: whom to wake; and what a worker receives there.
 use Rattle.std.specs.Prelude.{◌≡◌, ◌==◌, ◌&&◌, ⊤, ℕ, Option, Some, None, Result, Ok, Err, not}
+use Rattle.qx_base.specs.Memory.{FitInto, Leave, kept_beside}
 use Rattle.qx_types.specs.declared.names.Item.{Item}
 use Rattle.qx_types.specs.declared.names.Manager.{Manager}
 use Rattle.qx_types.specs.declared.names.Thread.{Thread}
@@ -43,6 +44,21 @@ abbrev pub copied : HeldCopy → Work
 copied (Message bytes) = work.Message bytes
 copied Pulse = work.Pulse
 
+-- a copy of what is held needs no more memory than is kept for it: that of a message which fits, and that of a pulse
+abbrev pub HasRoom : Option Work → ℕ → Type 0
+HasRoom (Some (work.Message bytes)) kept = FitInto bytes kept
+HasRoom _ kept = ⊤
+
+-- the memory that is kept once what is held was copied: more than a few bytes take it along
+abbrev pub kept_by : Option Work → ℕ → ℕ
+kept_by (Some (work.Message bytes)) kept = kept_beside bytes kept
+kept_by _ kept = kept
+
+-- what was done leaves its memory for the next copy
+abbrev pub LeavesRoom : Work → ℕ → ℕ → Type 0
+LeavesRoom (work.Message bytes) before after = Leave bytes before after
+LeavesRoom work.Pulse before after = after ≡ before
+
 abbrev pub item_taken : Outcome → Option Item
 item_taken (Took item) = Some item
 item_taken _ = None
@@ -57,6 +73,10 @@ next_item w worker (Some manager) = item_taken (step w (Receive worker manager))
 abbrev pub IfTook : Received → (Item → HeldCopy → Type 0) → Type 0
 IfTook (received.Took item held) P = P item held
 IfTook _ P = ⊤
+
+abbrev pub IfShort : Received → Type 0 → Type 0
+IfShort (received.Short short) P = P
+IfShort _ P = ⊤
 
 abbrev pub IfSent : Called → (Begun → Wake → Type 0) → Type 0
 IfSent (called.Sent begun wake) P = P begun wake

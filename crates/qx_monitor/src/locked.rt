@@ -1,9 +1,9 @@
 //! What lies under the lock, and who waits for what.
 
-ghost use Rattle.std.specs.Prelude.{◌≡◌, ◌==◌, ◌&&◌, ◌⊎◌, None, Some, true, false, not, IfOk, OnErr, is_some, nat_le, option_map};
+ghost use Rattle.std.specs.Prelude.{◌≡◌, ◌==◌, ◌&&◌, ◌⊎◌, None, Some, true, false, not, IfOk, IsOk, OnErr, OnOk, is_some, nat_le, option_map, vec_capacity};
 ghost use Rattle.qx_types.specs.declared.names.Thread.{Thread};
-ghost use Rattle.qx_monitor.specs.Awaits.{is_to_come, is_to_come_of, looking_after, woken};
-ghost use Rattle.qx_monitor.specs.Owed.{AreReleased, Came, IfTook, copied, item_taken, next_item};
+ghost use Rattle.qx_monitor.specs.Awaits.{is_to_come, is_to_come_of, looking_less, looking_more, overdue, woken};
+ghost use Rattle.qx_monitor.specs.Owed.{AreReleased, Came, HasRoom, IfShort, IfTook, copied, item_taken, kept_by, next_item};
 ghost use Rattle.qx_types.specs.declared.step.Step.{Step};
 ghost use Rattle.qx_machine.specs.Machine as machine;
 ghost use Rattle.qx_world.specs.Seats.{Works};
@@ -14,7 +14,7 @@ ghost use Rattle.qx_monitor.specs.declared.waits.Awaited.{Awaited};
 ghost use Rattle.qx_monitor.specs.declared.waits.Coming.{Coming};
 
 use crate::owed::{Released, Short, WasStopped};
-use crate::waits::{Awaited, Coming, ThreadSet, Waiting, Waits, Woken};
+use crate::waits::{Awaited, Coming, Looks, ThreadSet, Waits, Woken};
 use qx_types::{Item, MessageBytes, Outcome, Proc, Step, Thread, User, Worker};
 use qx_world::{UnderLock, Unstored, WorkRef, World};
 
@@ -67,12 +67,19 @@ impl<S: UnderLock> Locked<S> {
         }
     }
 
-    /// A worker receives the first item of the line that is next, and what it holds then is copied.
-    pub(crate) fn receive(&mut self, seat: &mut S::Seat, worker: Worker) -> Received
+    /// A worker receives the first item of the line that is next, and what it holds then is copied into the memory that is there.
+    pub(crate) fn receive(
+        &mut self,
+        seat: &mut S::Seat,
+        worker: Worker,
+        memory: &mut Vec<u8>,
+    ) -> Received
         ensures seat { Works S.adds S.keeps worker.0 seat.old seat.new }
         ensures took { IfTook result (λ item held. next_item (S.world_of self.old.under) worker (S.next_of self.old.under) ≡ Some item) }
         ensures copy { IfTook result (λ item held. held_work (S.world_of self.new.under) worker.0 ≡ Some (copied held)) }
         ensures ended { result ≡ Received.Ended → (next_item (S.world_of self.old.under) worker (S.next_of self.old.under) ≡ None) ⊎ (held_work (S.world_of self.new.under) worker.0 ≡ None) }
+        ensures short { IfShort result ((S.world_of self.new.under ≡ S.world_of self.old.under) ⊎ (HasRoom (held_work (S.world_of self.new.under) worker.0) (vec_capacity memory.old) → ⊥)) }
+        ensures memory { IfTook result (λ item held. vec_capacity memory.new ≡ kept_by (Some (copied held)) (vec_capacity memory.old)) }
         ensures looking { self.new.looking ≡ self.old.looking }
     {
         let Some(manager) = self.under.next_manager() else {
@@ -83,7 +90,7 @@ impl<S: UnderLock> Locked<S> {
                 let Some(item) = item_taken(&outcome) else {
                     return Received::Ended;
                 };
-                match self.held(worker) {
+                match self.held(worker, memory) {
                     Ok(Some(held)) => Received::Took(item, held),
                     Ok(None) => Received::Ended,
                     Err(short) => Received::Short(short),
@@ -118,26 +125,60 @@ impl<S: UnderLock> Locked<S> {
         1 <= worker.0 && worker.0 <= self.world().config().workers()
     }
 
-    /// A copy of what a worker holds, if it holds anything.
-    pub fn held(&self, worker: Worker) -> Result<Option<HeldCopy>, Short>
-        ensures { IfOk result (λ held. option_map copied held ≡ held_work (S.world_of self.now.under) worker.0) }
+    /// A copy of what a worker holds, if it holds anything, in the memory that is there. More is taken only for a message that
+    /// does not fit into it.
+    pub fn held(&self, worker: Worker, memory: &mut Vec<u8>) -> Result<Option<HeldCopy>, Short>
+        ensures held { IfOk result (λ held. option_map copied held ≡ held_work (S.world_of self.now.under) worker.0) }
+        ensures sure { HasRoom (held_work (S.world_of self.now.under) worker.0) (vec_capacity memory.old) → IsOk result }
+        ensures memory { OnOk result (vec_capacity memory.new ≡ kept_by (held_work (S.world_of self.now.under) worker.0) (vec_capacity memory.old)) }
     {
         match self.world().held(worker) {
-            Some(WorkRef::Message(bytes)) => match bytes.clone() {
-                Ok(bytes) => Ok(Some(HeldCopy::Message(bytes))),
-                Err(_) => Err(Short::new()),
-            },
+            Some(WorkRef::Message(bytes)) => {
+                match MessageBytes::joined(memory, bytes.as_slice(), &[], &[]) {
+                    Ok(bytes) => Ok(Some(HeldCopy::Message(bytes))),
+                    Err(_) => Err(Short::new()),
+                }
+            }
             Some(WorkRef::Pulse) => Ok(Some(HeldCopy::Pulse)),
             None => Ok(None),
         }
     }
 
+    /// A thread begins to look for what it waits for. A worker counts as one that looks for an item until it has the lock again.
+    pub(crate) fn looks(&mut self, awaited: Awaited) -> Looks
+        ensures awaited { result.awaited ≡ awaited }
+        ensures looking { self.new.looking ≡ looking_more awaited self.old.looking }
+        ensures under { self.new.under ≡ self.old.under }
+        ensures answers { self.new.answers ≡ self.old.answers }
+        ensures pulses { self.new.pulses ≡ self.old.pulses }
+        ensures stopped { self.new.is_stopped ≡ self.old.is_stopped }
+    {
+        if let Awaited::Item = awaited {
+            self.looking = self.looking.saturating_add(1);
+        }
+        Looks { awaited }
+    }
+
+    /// A thread that looked has the lock again, whatever it finds.
+    pub(crate) fn found(&mut self, looks: Looks)
+        ensures looking { self.new.looking ≡ looking_less looks.awaited self.old.looking }
+        ensures under { self.new.under ≡ self.old.under }
+        ensures answers { self.new.answers ≡ self.old.answers }
+        ensures pulses { self.new.pulses ≡ self.old.pulses }
+        ensures stopped { self.new.is_stopped ≡ self.old.is_stopped }
+    {
+        let Looks { awaited } = looks;
+        if let Awaited::Item = awaited {
+            self.looking = self.looking.saturating_sub(1);
+        }
+    }
+
     /// Whether what is awaited has yet to come, unless the server was stopped. If it is of a thread, it is marked that a client
-    /// waits for it. A worker counts as one that looks for an item from where it begins to wait until it has the lock again.
-    pub(crate) fn waits_for(&mut self, awaited: Awaited, waiting: Waiting) -> bool
+    /// waits for it.
+    pub(crate) fn waits_for(&mut self, awaited: Awaited) -> bool
         ensures told { result ≡ (not self.old.is_stopped && is_to_come (S.world_of self.old.under) awaited) }
         ensures still { result ≡ (not self.new.is_stopped && is_to_come (S.world_of self.new.under) awaited) }
-        ensures looking { self.new.looking ≡ looking_after waiting awaited self.old.looking }
+        ensures looking { self.new.looking ≡ self.old.looking }
         ensures answer { (thread : Thread) → awaited ≡ Awaited.OfThread Coming.Answer thread → result ≡ true → is_awaited self.new.answers thread ≡ true }
         ensures pulse { (thread : Thread) → awaited ≡ Awaited.OfThread Coming.Pulse thread → result ≡ true → is_awaited self.new.pulses thread ≡ true }
         ensures other_answers { (thread : Thread) → is_awaited self.old.answers thread ≡ true → is_awaited self.new.answers thread ≡ true }
@@ -145,13 +186,6 @@ impl<S: UnderLock> Locked<S> {
         ensures under { self.new.under ≡ self.old.under }
         ensures stopped { self.new.is_stopped ≡ self.old.is_stopped }
     {
-        if let Awaited::Item = awaited {
-            match waiting {
-                Waiting::Begins => self.looking = self.looking.saturating_add(1),
-                Waiting::Spun => self.looking = self.looking.saturating_sub(1),
-                Waiting::Slept => {}
-            }
-        }
         if self.is_stopped || !self.is_to_come(awaited) {
             return false;
         }
@@ -184,6 +218,17 @@ impl<S: UnderLock> Locked<S> {
             Woken::Sleeping
         } else {
             Woken::Looking
+        }
+    }
+
+    /// Which worker is woken by a client that spun in vain: one that sleeps, where an item stands still that was left to one that
+    /// looks. The kernel may have taken the processor from that one.
+    pub(crate) fn overdue(&self) -> Woken
+        ensures { result ≡ overdue (S.world_of self.now.under) self.now.looking }
+    {
+        match self.woken() {
+            Woken::Looking => Woken::Sleeping,
+            Woken::Nobody | Woken::Sleeping => Woken::Nobody,
         }
     }
 

@@ -1,6 +1,6 @@
 //! One lock, and where threads sleep.
 
-ghost use Rattle.std.specs.Prelude.{◌≡◌, ◌≢◌, ◌&&◌, ◌⊎◌, None, Some, false, is_ok, is_some, true, not, IfErr, IfOk, MatchBool, OnErr};
+ghost use Rattle.std.specs.Prelude.{◌≡◌, ◌≢◌, ◌&&◌, ◌⊎◌, None, Some, false, is_ok, is_some, true, not, IfErr, IfOk, MatchBool, OnErr, vec_capacity};
 ghost use Rattle.std.specs.Sync.Mutex.{mutex_guard_value};
 ghost use Rattle.qx_types.specs.declared.names.Thread.{Thread};
 ghost use Rattle.qx_types.specs.declared.outcome.Outcome.{Outcome};
@@ -8,20 +8,19 @@ ghost use Rattle.qx_types.specs.declared.step.Step.{Step};
 ghost use Rattle.qx_machine.specs.Machine as machine;
 ghost use Rattle.qx_world.specs.Seats.{Works, world_then};
 ghost use Rattle.qx_world.specs.Steps.{held_work, IsStale};
-ghost use Rattle.qx_monitor.specs.Awaits.{is_to_come, is_to_come_of, looking_after, woken};
-ghost use Rattle.qx_monitor.specs.Owed.{AreReleased, IfHandled, IfSent, IfTook, IfUnsent, copied, next_item};
+ghost use Rattle.qx_monitor.specs.Awaits.{is_to_come, is_to_come_of, looking_more, woken};
+ghost use Rattle.qx_monitor.specs.Owed.{AreReleased, HasRoom, IfHandled, IfSent, IfShort, IfTook, IfUnsent, copied, kept_by, next_item};
 ghost use Rattle.qx_monitor.specs.Waits.{is_awaited};
 ghost use Rattle.qx_monitor.specs.declared.locked.Received.{Received};
 ghost use Rattle.qx_monitor.specs.declared.monitor.Called.{Called};
 ghost use Rattle.qx_monitor.specs.declared.monitor.Performed.{Performed};
 ghost use Rattle.qx_monitor.specs.declared.waits.Awaited.{Awaited};
 ghost use Rattle.qx_monitor.specs.declared.waits.Coming.{Coming};
-ghost use Rattle.qx_monitor.specs.declared.waits.Waiting.{Waiting};
 
 use crate::locked::{Locked, Received};
 use crate::owed::{Begun, Released, Short, Wake};
-use crate::spinner::{LOCK_TRIES, Spinner, pause};
-use crate::waits::{Awaited, Coming, THREADS, ThreadSet, Waiting, Woken, place_of};
+use crate::spinner::{LOCK_TRIES, SpinEnd, Spinner, pause};
+use crate::waits::{Awaited, Coming, Due, Looks, THREADS, ThreadSet, Woken, place_of};
 use qx_types::{Outcome, Request, Step, Thread, Worker};
 use qx_world::{PerformFault, UnderLock, Unstored, Work};
 use std::alloc::{AllocError, Global};
@@ -85,6 +84,12 @@ impl Bells {
         }
         Ok(Bells { each })
     }
+
+    /// Wakes who sleeps at the bell of a thread.
+    fn ring(&self, due: Due) {
+        let Due { thread } = due;
+        self.each[place_of(thread)].notify_all();
+    }
 }
 
 impl<S: UnderLock> Monitor<S> {
@@ -140,41 +145,48 @@ impl<S: UnderLock> Monitor<S> {
 
     /// A thread begins to wait for this, under the lock.
     pub fn begin(&self, locked: &mut Locked<S>, awaited: Awaited) -> Begun
-        ensures awaited { result.awaited ≡ awaited }
+        ensures awaited { result.looks.awaited ≡ awaited }
         ensures there { result.seen ≡ None → (not locked.old.is_stopped && is_to_come (S.world_of locked.old.under) awaited) ≡ false }
         ensures answer { (thread : Thread) → awaited ≡ Awaited.OfThread Coming.Answer thread → is_some result.seen ≡ true → is_awaited locked.new.answers thread ≡ true }
         ensures pulse { (thread : Thread) → awaited ≡ Awaited.OfThread Coming.Pulse thread → is_some result.seen ≡ true → is_awaited locked.new.pulses thread ≡ true }
-        ensures looking { locked.new.looking ≡ looking_after Waiting.Begins awaited locked.old.looking }
+        ensures looking { locked.new.looking ≡ looking_more awaited locked.old.looking }
         ensures under { locked.new.under ≡ locked.old.under }
     {
-        let seen = if locked.waits_for(awaited, Waiting::Begins) {
+        let looks = locked.looks(awaited);
+        let seen = if locked.waits_for(awaited) {
             Some(self.watched(awaited).notifications())
         } else {
             None
         };
-        Begun { awaited, seen }
+        Begun { looks, seen }
     }
 
     /// Takes the lock once what is awaited came, or the server was stopped. A thread that began to wait spins until then, and sleeps
-    /// where that was in vain. One that comes too late for what was there, or for what it was told of, spins once more.
+    /// where that was in vain. One that comes too late for what was there, or for what it was told of, spins once more. A client
+    /// that spun in vain wakes a worker for an item that is overdue.
     pub fn lock_for<R: Wait>(
         &self,
         rt: &R,
         spinner: &mut Spinner,
         begun: Begun,
     ) -> MutexGuard<'_, Locked<S>>
-        ensures { (not (mutex_guard_value result).is_stopped && is_to_come (S.world_of (mutex_guard_value result).under) begun.awaited) ≡ false }
+        ensures { (not (mutex_guard_value result).is_stopped && is_to_come (S.world_of (mutex_guard_value result).under) begun.looks.awaited) ≡ false }
     {
-        let Begun { awaited, seen } = begun;
-        let (mut guard, is_late) = self.spin(rt, spinner, awaited, seen);
-        if is_late {
-            let Begun { awaited: _, seen } = self.begin(&mut guard, awaited);
+        let Begun { looks, seen } = begun;
+        let awaited = looks.awaited;
+        let (mut guard, mut missed) = self.spin(rt, spinner, looks, seen);
+        if let Some(SpinEnd::Told) = missed {
+            let Begun { looks, seen } = self.begin(&mut guard, awaited);
             drop(guard);
-            (guard, _) = self.spin(rt, spinner, awaited, seen);
+            (guard, missed) = self.spin(rt, spinner, looks, seen);
+        }
+        if let Some(SpinEnd::InVain) = missed {
+            let who = guard.overdue();
+            self.wake_worker(Wake { who });
         }
         let bell = self.bell(awaited);
         'sleeping: for _ in rt.forever() {
-            if !guard.waits_for(awaited, Waiting::Slept) {
+            if !guard.waits_for(awaited) {
                 return guard;
             }
             guard = bell.wait(rt, guard);
@@ -193,7 +205,7 @@ impl<S: UnderLock> Monitor<S> {
         ensures { (not (mutex_guard_value result).is_stopped && is_to_come_of (S.world_of (mutex_guard_value result).under) coming thread) ≡ false }
     {
         let mut guard = self.lock(rt);
-        if !guard.waits_for(Awaited::OfThread(coming, thread), Waiting::Slept) {
+        if !guard.waits_for(Awaited::OfThread(coming, thread)) {
             return guard;
         }
         let begun = self.begin(&mut guard, Awaited::OfThread(coming, thread));
@@ -201,27 +213,29 @@ impl<S: UnderLock> Monitor<S> {
         self.lock_for(rt, spinner, begun)
     }
 
-    /// Spins, and takes the lock. Whether the thread came too late: what it waits for was there, or was told of, and is there no
-    /// longer.
+    /// Spins, and takes the lock. None where what the thread waits for is there; else how the spin ended. One that was told, or found
+    /// it there before, came too late.
     fn spin<R: Wait>(
         &self,
         rt: &R,
         spinner: &mut Spinner,
-        awaited: Awaited,
+        looks: Looks,
         seen: Option<u64>,
-    ) -> (MutexGuard<'_, Locked<S>>, bool) {
-        let told = match seen {
-            None => true,
+    ) -> (MutexGuard<'_, Locked<S>>, Option<SpinEnd>) {
+        let awaited = looks.awaited;
+        let end = match seen {
+            None => SpinEnd::Told,
             Some(seen) => spinner.spin(self.watched(awaited), seen),
         };
         let mut guard = self.lock(rt);
-        let waits = guard.waits_for(awaited, Waiting::Spun);
-        if seen.is_some() {
-            if told && !waits {
-                spinner.paid();
-            }
+        guard.found(looks);
+        if guard.waits_for(awaited) {
+            return (guard, Some(end));
         }
-        (guard, told && waits)
+        if let (Some(_), SpinEnd::Told) = (seen, end) {
+            spinner.paid();
+        }
+        (guard, None)
     }
 
     /// A thread calls, or the step comes back. Of a call that was sent, a worker is woken, and the thread begins to wait for its
@@ -234,7 +248,7 @@ impl<S: UnderLock> Monitor<S> {
         request: Request,
     ) -> Called
         ensures sent { IfSent result (λ begun wake. S.adds seat.old seat.new (Step.Call thread request) Outcome.Sent) }
-        ensures awaits { IfSent result (λ begun wake. begun.awaited ≡ Awaited.OfThread Coming.Answer thread) }
+        ensures awaits { IfSent result (λ begun wake. begun.looks.awaited ≡ Awaited.OfThread Coming.Answer thread) }
         ensures wakes { IfSent result (λ begun wake. wake.who ≡ woken (S.world_of locked.new.under) locked.old.looking) }
         ensures unsent { IfUnsent result (λ outcome. outcome ≢ Outcome.Sent) }
         ensures told { IfUnsent result (λ outcome. outcome ≡ (machine.step (S.world_of locked.old.under) (Step.Call thread request)).outcome) }
@@ -275,20 +289,29 @@ impl<S: UnderLock> Monitor<S> {
         (result, released, wake)
     }
 
-    /// A worker receives the first item of the line that is next; with which worker to wake, where another item stands in a line.
+    /// Memory for a worker's copies of what it receives, none yet.
+    pub fn memory(&self) -> Vec<u8> {
+        Vec::new(*self.bells.each.allocator())
+    }
+
+    /// A worker receives the first item of the line that is next, copied into its memory; with which worker to wake, where another
+    /// item stands in a line. A copy that fits into that memory is not refused.
     pub fn receive(
         &self,
         locked: &mut Locked<S>,
         seat: &mut S::Seat,
         worker: Worker,
+        memory: &mut Vec<u8>,
     ) -> (Received, Wake)
         ensures seat { Works S.adds S.keeps worker.0 seat.old seat.new }
         ensures took { IfTook result.0 (λ item held. next_item (S.world_of locked.old.under) worker (S.next_of locked.old.under) ≡ Some item) }
         ensures copy { IfTook result.0 (λ item held. held_work (S.world_of locked.new.under) worker.0 ≡ Some (copied held)) }
         ensures ended { result.0 ≡ Received.Ended → (next_item (S.world_of locked.old.under) worker (S.next_of locked.old.under) ≡ None) ⊎ (held_work (S.world_of locked.new.under) worker.0 ≡ None) }
+        ensures short { IfShort result.0 ((S.world_of locked.new.under ≡ S.world_of locked.old.under) ⊎ (HasRoom (held_work (S.world_of locked.new.under) worker.0) (vec_capacity memory.old) → ⊥)) }
+        ensures memory { IfTook result.0 (λ item held. vec_capacity memory.new ≡ kept_by (Some (copied held)) (vec_capacity memory.old)) }
         ensures wakes { result.1.who ≡ woken (S.world_of locked.new.under) locked.old.looking }
     {
-        let received = locked.receive(seat, worker);
+        let received = locked.receive(seat, worker, memory);
         let wake = self.woken(locked);
         (received, wake)
     }
@@ -305,7 +328,7 @@ impl<S: UnderLock> Monitor<S> {
     ) -> (Performed, Option<Released>)
         ensures seat { Works S.adds S.keeps worker.0 seat.old seat.new }
         ensures handled { IfHandled result.0 (λ begun. (machine.step (S.world_of locked.old.under) (Step.Perform worker moment)).outcome ≡ Outcome.Handled) }
-        ensures awaits { IfHandled result.0 (λ begun. begun.awaited ≡ Awaited.Item) }
+        ensures awaits { IfHandled result.0 (λ begun. begun.looks.awaited ≡ Awaited.Item) }
         ensures ended { result.0 ≡ Performed.Ended → ((machine.step (S.world_of locked.old.under) (Step.Perform worker moment)).outcome ≢ Outcome.Handled) ⊎ IsStale (held_work (S.world_of locked.old.under) worker.0) work.now }
         ensures released { AreReleased (S.world_of locked.new.under) (machine.owner (S.world_of locked.old.under) (Step.Perform worker moment)) locked.old.answers locked.old.pulses result.1 }
     {
@@ -358,8 +381,8 @@ impl<S: UnderLock> Monitor<S> {
 
     /// Wakes who sleeps at the bells of these threads.
     fn ring(&self, mut threads: ThreadSet) {
-        'waking: while let Some(thread) = threads.pop() {
-            self.bells.each[place_of(thread)].notify_all();
+        'waking: while let Some(due) = threads.due() {
+            self.bells.ring(due);
         }
         threads.end();
     }

@@ -3,7 +3,7 @@
 
 ghost use Rattle.std.specs.Prelude.{◌≡◌};
 
-use crate::waits::{Awaited, ThreadSet, Woken};
+use crate::waits::{Looks, ThreadSet, Woken};
 
 /// Clients to wake, whose threads have what they wait for: an answer, and a pulse of their process. `wake_clients` takes it.
 pub struct Released {
@@ -18,7 +18,7 @@ pub struct Wake {
 
 /// A wait that began under the lock. `lock_for` takes it.
 pub struct Begun {
-    pub(crate) awaited: Awaited,
+    pub(crate) looks: Looks,
     /// None where what is awaited was there, or the server was stopped; else how many notifications there were.
     pub(crate) seen: Option<u64>,
 }

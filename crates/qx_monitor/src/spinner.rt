@@ -16,6 +16,17 @@ const TRIAL: u32 = 64;
 /// So often a thread asks for a lock before it sleeps, some 8 microseconds long.
 pub(crate) const LOCK_TRIES: u32 = 64;
 
+/// How a spin ended.
+#[derive(Clone, Copy, Debug, PartialEq, Eq)]
+pub(crate) enum SpinEnd {
+    /// The thread was notified.
+    Told,
+    /// It was not, for as long as it looked.
+    InVain,
+    /// It did not look, as that hardly pays.
+    Skipped,
+}
+
 /// Whether a thread spins before it sleeps. Where what it waits for comes within the spin, as by a thread on another
 /// processor, neither has to ask the kernel; where it doesn't, as on one processor, or where another thread takes it first,
 /// the time is lost. So it spins as long as that pays.
@@ -31,18 +42,20 @@ impl Spinner {
         Spinner { vain: 0 }
     }
 
-    /// Waits for more notifications than were seen, for a while, or not at all where that hardly pays. Whether there are more.
-    pub(crate) fn spin(&mut self, watched: &Condvar, seen: u64) -> bool {
+    /// Waits for more notifications than were seen, for a while, or not at all where that hardly pays.
+    pub(crate) fn spin(&mut self, watched: &Condvar, seen: u64) -> SpinEnd {
         let may_pay = self.vain < VAIN || self.vain.is_multiple_of(TRIAL);
         self.vain = self.vain.wrapping_add(1);
-        let looks = if may_pay { LOOKS } else { 0 };
-        for _ in 0..looks {
+        if !may_pay {
+            return SpinEnd::Skipped;
+        }
+        for _ in 0..LOOKS {
             if watched.notifications() != seen {
-                return true;
+                return SpinEnd::Told;
             }
             spin_loop();
         }
-        false
+        SpinEnd::InVain
     }
 
     /// What the thread waited for is there after its spin.

@@ -31,15 +31,10 @@ pub enum Coming {
     Pulse,
 }
 
-/// How far a thread has come that waits, whenever it has the lock.
-#[derive(Clone, Copy, Debug, PartialEq, Eq)]
-pub(crate) enum Waiting {
-    /// It begins.
-    Begins,
-    /// It has spun.
-    Spun,
-    /// It is to sleep, or has slept.
-    Slept,
+/// A thread looks for what it waits for, without the lock; workers that look for an item are counted. It can't be let fall: `found`
+/// of `Locked` takes it once the thread has the lock again, so each that is counted is counted off.
+pub(crate) struct Looks {
+    pub(crate) awaited: Awaited,
 }
 
 /// Which worker is woken as the lock is let go.
@@ -58,6 +53,11 @@ pub struct ThreadSet {
     user: User,
     /// For each thread the bit of its number.
     bits: u64,
+}
+
+/// A thread that left a set, and whose bell is to be rung. It can't be let fall: `Bells::ring` takes it.
+pub(crate) struct Due {
+    pub(crate) thread: Thread,
 }
 
 /// The threads for which clients wait, of each user.
@@ -151,6 +151,20 @@ impl ThreadSet {
         let number = self.bits.trailing_zeros() as usize;
         self.bits &= !(1 << number);
         Some(thread_of(self.user, number))
+    }
+
+    /// The same, of a thread whose bell is to be rung.
+    pub(crate) fn due(&mut self) -> Option<Due>
+        ensures was_in { IfSome result (λ due. is_in self.old due.thread ≡ true) }
+        ensures left { IfSome result (λ due. is_in self.new due.thread ≡ false) }
+        ensures others { IfSome result (λ due. (other : Thread) → IsPossible other → other ≢ due.thread → is_in self.new other ≡ is_in self.old other) }
+        ensures ended { IfNone result (self.new.bits ≡ 0) }
+        ensures fewer { IsSome result → self.new.bits < self.old.bits }
+    {
+        match self.pop() {
+            Some(thread) => Some(Due { thread }),
+            None => None,
+        }
     }
 
     /// All threads have left.

@@ -1,6 +1,6 @@
 //! Worker threads and clients' threads round one lock, under which they take steps.
 //!
-//! - `server.rt`: `ServerOf`, a monitor over a world, with its seats; how it is stopped
+//! - `server.rt`: `ServerOf`, a monitor over a world, with its seats; how it is stopped, and looked into (`Look`)
 //! - `worker.rt`: `worker_loop`, with what an author gives it: a `Gate` and a `Clock`
 //! - `client.rt`: `ClientOf`, who calls, waits for pulses and takes other steps
 //! - `pool.rt`: `Server`, whose steps are stored, with its seats, and its `Client`
@@ -30,7 +30,7 @@ pub use qx_monitor::WasStopped;
 pub use qx_storing::{Note, Seat};
 pub use qx_tied::{Event, OfRun, Opened};
 pub use qx_world::UnderLock;
-pub use server::ServerOf;
+pub use server::{Look, ServerOf};
 pub use service::{Service, ServiceClient};
 pub use tied::{TiedClient, TiedService};
 pub use worker::{Clock, Gate, worker_loop};

@@ -1,7 +1,7 @@
 //! The loop of a worker.
 
-ghost use Rattle.std.specs.Prelude.{◌≡◌};
-ghost use Rattle.qx_monitor.specs.Owed.{copied};
+ghost use Rattle.std.specs.Prelude.{◌≡◌, Some, IfSome, vec_capacity};
+ghost use Rattle.qx_monitor.specs.Owed.{LeavesRoom, copied, kept_by};
 ghost use Rattle.qx_world.specs.Seats.{Works};
 
 use crate::server::ServerOf;
@@ -37,17 +37,26 @@ pub fn worker_loop<S: UnderLock, G: Gate, C: Clock, R: Wait>(
     let mut seat = seat;
     let monitor = &server.monitor;
     let mut spinner = Spinner::new();
-    let Some(mut begun) = resume(rt, monitor, &mut seat, worker, clock) else {
+    let mut memory = monitor.memory();
+    let Some(mut begun) = resume(rt, monitor, &mut seat, worker, &mut memory, clock) else {
         return seat;
     };
     'working: for _ in rt.forever() {
-        let received = receive(rt, monitor, &mut seat, worker, &mut spinner, begun);
+        let received = receive(
+            rt,
+            monitor,
+            &mut seat,
+            worker,
+            &mut memory,
+            &mut spinner,
+            begun,
+        );
         let Some((item, held)) = received else {
             return seat;
         };
         let work = decoded(held);
         gate.between(rt, worker, item);
-        let Some(next) = perform(rt, monitor, &mut seat, worker, work, clock) else {
+        let Some(next) = perform(rt, monitor, &mut seat, worker, &mut memory, work, clock) else {
             return seat;
         };
         begun = next;
@@ -63,6 +72,7 @@ fn resume<S: UnderLock, C: Clock, R: Wait>(
     monitor: &Monitor<S>,
     seat: &mut S::Seat,
     worker: Worker,
+    memory: &mut Vec<u8>,
     clock: &C,
 ) -> Option<Begun>
     ensures { Works S.adds S.keeps worker.0 seat.old seat.new }
@@ -71,10 +81,10 @@ fn resume<S: UnderLock, C: Clock, R: Wait>(
     if !guard.is_worker(worker) {
         return None;
     }
-    match guard.held(worker) {
+    match guard.held(worker, memory) {
         Ok(Some(held)) => {
             drop(guard);
-            perform(rt, monitor, seat, worker, decoded(held), clock)
+            perform(rt, monitor, seat, worker, memory, decoded(held), clock)
         }
         Ok(None) => Some(monitor.begin(&mut guard, Awaited::Item)),
         Err(short) => {
@@ -92,13 +102,15 @@ fn receive<S: UnderLock, R: Wait>(
     monitor: &Monitor<S>,
     seat: &mut S::Seat,
     worker: Worker,
+    memory: &mut Vec<u8>,
     spinner: &mut Spinner,
     begun: Begun,
 ) -> Option<(Item, HeldCopy)>
-    ensures { Works S.adds S.keeps worker.0 seat.old seat.new }
+    ensures seat { Works S.adds S.keeps worker.0 seat.old seat.new }
+    ensures memory { IfSome result (λ taken. vec_capacity memory.new ≡ kept_by (Some (copied taken.1)) (vec_capacity memory.old)) }
 {
     let mut guard = monitor.lock_for(rt, spinner, begun);
-    let (received, wake) = monitor.receive(&mut guard, seat, worker);
+    let (received, wake) = monitor.receive(&mut guard, seat, worker, memory);
     drop(guard);
     monitor.wake_worker(wake);
     match received {
@@ -111,22 +123,28 @@ fn receive<S: UnderLock, R: Wait>(
     }
 }
 
-/// Performs what the worker holds, wakes who was answered by that, and begins to wait for an item. None where the loop ends.
+/// Performs what the worker holds, wakes who was answered by that, and begins to wait for an item. None where the loop ends. The copy
+/// of a message leaves its memory for the next one, so that a message of as many bytes needs none.
 fn perform<S: UnderLock, C: Clock, R: Wait>(
     rt: &R,
     monitor: &Monitor<S>,
     seat: &mut S::Seat,
     worker: Worker,
+    memory: &mut Vec<u8>,
     work: Work,
     clock: &C,
 ) -> Option<Begun>
-    ensures { Works S.adds S.keeps worker.0 seat.old seat.new }
+    ensures seat { Works S.adds S.keeps worker.0 seat.old seat.new }
+    ensures memory { LeavesRoom work (vec_capacity memory.old) (vec_capacity memory.new) }
 {
     let moment = clock.moment();
     let mut guard = monitor.lock(rt);
     let (performed, released) = monitor.perform(&mut guard, seat, worker, &work, moment);
     drop(guard);
     monitor.wake_clients(released);
+    if let Work::Message(message) = work {
+        message.into_bytes().into_memory(memory);
+    }
     match performed {
         Performed::Handled(begun) => Some(begun),
         Performed::Ended => None,

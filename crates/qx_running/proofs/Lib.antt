@@ -4,7 +4,5 @@ mod NextLemmas
 mod PieceLemmas
 -- a run, one step longer
 mod RunLemmas
--- what is read of recorded steps
-pub mod ToldLemmas
 -- lines that are as urgent take turns
 mod TurnLemmas

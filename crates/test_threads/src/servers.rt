@@ -130,7 +130,7 @@ fn take_recorded(
 ) -> Result<Retaken, NoMemory> {
     for _ in 0..ROOM {
         let next = again.entries().len() as u64 + 1;
-        let piece = service.recent(rt, next)?;
+        let piece = service.look(rt).under().recent(next)?;
         if piece.steps.is_empty() {
             return Ok(Retaken::All);
         }

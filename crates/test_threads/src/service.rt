@@ -72,7 +72,7 @@ fn goes_on_with_what_is_held(rt: HostRuntime) -> Result<(), LinesFault> {
     second.stop(&rt);
     let signals = signals(None);
     worker_loop(&rt, &second, (), Worker(1), &signals, &signals);
-    let piece = second.recent(&rt, 0)?;
+    let piece = second.look(&rt).under().recent(0)?;
     assert!(rt; piece.first == 1 && piece.steps.len() == 3);
     let world = second.into_world();
     assert!(rt; world.answered(thread(User(1), 1)) && world.answered(thread(User(1), 2)));
