@@ -13,7 +13,8 @@ ghost use Rattle.qx_machine.specs.declared.rows.Conditions.{Conditions};
 ghost use Rattle.qx_machine.specs.Events.{Events, event_count, triggered};
 ghost use Rattle.qx_machine.specs.Inodes.{blocks_of_client, is_clients};
 ghost use Rattle.qx_machine.specs.Listings.{listed_by, listed_next};
-ghost use Rattle.qx_machine.specs.Machine.{line_of, own_held};
+ghost use Rattle.qx_machine.specs.Laws.{is_refusal};
+ghost use Rattle.qx_machine.specs.Machine.{World, line_of, own_held, step};
 ghost use Rattle.qx_machine.specs.Names.{listed, listing, names_in};
 ghost use Rattle.qx_machine.specs.Mounting.{new_resources};
 ghost use Rattle.qx_machine.specs.Parts.{Part};
@@ -24,6 +25,7 @@ ghost use Rattle.qx_machine.specs.Runs.{run};
 ghost use Rattle.qx_machine.specs.Settling.{is_held};
 ghost use Rattle.qx_machine.specs.Waiting.{is_call};
 ghost use Rattle.qx_invariants.specs.Changes.{Become};
+ghost use Rattle.qx_invariants.specs.Errors.{IsAmong, refusals};
 ghost use Rattle.qx_invariants.specs.Holds.{HasClients, HasConnections, HasContents, HasFewConnections, HasFewProcesses, HasFewServers, HasKinds, HasLimits, HasMade, HasMounts, HasNames, HasOpenWaiters, HasOwnWaiters, HasRoom, HasSettledPipes, HasTree, HasUses, HoldsInRuns, HoldsOfParts, IsOwnedBy, WaitsOnce, due_pulses, greatest_prio};
 ghost use Rattle.qx_invariants.specs.Waits.{count_waiting};
 
@@ -197,4 +199,10 @@ pub fn ended_processes_are_freed()
 pub fn threads_wait_once()
     ensures threads { HoldsOfParts WaitsOnce }
     ensures calls { HoldsInRuns (λ r. (process thread number : ℕ) → count_waiting (is_call process thread number) r.pipes ≤ 1) }
+{}
+
+/// A step that is refused is refused in a way that its list names, whatever the world is.
+#[tactic(auto, using(crate::proofs::Judged::refusals_named))]
+pub fn refusals_are_named()
+    ensures { (w : World) (e : Step) → is_refusal (step w e).outcome ≡ true → IsAmong (step w e).outcome (refusals e) }
 {}
