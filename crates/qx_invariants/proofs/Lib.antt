@@ -82,3 +82,7 @@ pub mod Judged
 pub mod Answering
 -- with which errors messages are answered
 pub mod Erring
+-- with which errors threads are answered
+pub mod Asked
+-- and in runs
+pub mod LastSent

@@ -104,7 +104,7 @@ reply_changes thread change Side effect process = refl
 -- ---- what changes none
 
 -- a server connection goes with its disconnect pulse
-unserved_same : (processes : List (Option Process)) (number : ℕ) (server : ServerName) (p t : ℕ) → thread_of t (row_at (with_row processes number (without_server server)) p) ≡ thread_of t (row_at processes p)
+pub unserved_same : (processes : List (Option Process)) (number : ℕ) (server : ServerName) (p t : ℕ) → thread_of t (row_at (with_row processes number (without_server server)) p) ≡ thread_of t (row_at processes p)
 unserved_same [] number server p t = refl
 unserved_same (None ∷ rest) zero server zero t = refl
 unserved_same (Some process ∷ rest) zero server zero t = refl
