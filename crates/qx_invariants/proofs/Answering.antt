@@ -15,7 +15,7 @@ use Rattle.qx_types.specs.declared.outcome.Answer.TheVariants.{Failed, Reply}
 use Rattle.qx_wire.specs.declared.message.Message.TheVariants as msg
 use Rattle.qx_machine.specs.declared.rows.Manner.{Manner}
 use Rattle.qx_machine.specs.declared.rows.Sides.{Sides}
-use Rattle.qx_machine.specs.Pipes.{PipeAfter, Pipe, all_answered, and_then, answered_first, cancel, clean, clean_read, clean_write, dismissed, first_answered, if_first, nobody_answered, one_answered, pipe_of, read, read_told, readers_dismissed, readers_ended, release, removed, served, settle, staying, told_or_waiting, tried, waiting_unless, with_reader, with_writer, without_bytes, write, write_told, writers_dismissed, writers_ended}
+use Rattle.qx_machine.specs.Pipes.{PipeAfter, Pipe, all_answered, and_then, cancel, clean, clean_read, clean_write, dismissed, if_first, nobody_answered, one_answered, pipe_of, read, read_told, readers_ended, release, served, settle, staying, told_or_waiting, tried, waiting_unless, without_bytes, write, write_told, writers_ended}
 use Rattle.qx_machine.specs.Verdicts.{pipe_read, pipe_write, read_ended, read_of, sides_at, told_of, within, write_ended, write_of}
 use Rattle.qx_invariants.specs.Errors.{Any, Errors, IsOneOf, pipe}
 

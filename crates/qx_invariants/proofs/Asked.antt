@@ -1,11 +1,11 @@
 -- With which error a thread is answered: with one that its message may be answered with, in each step and so in each run.
-use Rattle.std.proofs.Common.{◌≡◌, ◌≢◌, inl, inr, ℕ, ◌+◌, ◌≤◌, ◌==◌, Bool, true, false, List, [], ◌∷◌, map, refl, sym, ap, ◌∙◌, subst, arith, zero, suc}
-use Rattle.std.specs.Prelude.{◌&&◌, not, Option, Some, None, Result, Ok, Err, if◌then◌else◌, option_map, replicate}
-use Rattle.std.specs.List.{AllByRecursion, count_by}
-use Rattle.std.proofs.lemmas.Bool.{cases_eq, cond_both, eq-eqb}
+use Rattle.std.proofs.Common.{◌≡◌, inl, inr, ℕ, ◌+◌, true, false, List, [], ◌∷◌, map, refl, sym, ap, ◌∙◌, subst, zero, suc}
+use Rattle.std.specs.Prelude.{Option, Some, None, Result, Ok, Err, option_map, replicate}
+use Rattle.std.specs.List.{AllByRecursion}
+use Rattle.std.proofs.lemmas.Bool.{cases_eq, cond_both}
 use Rattle.std.proofs.lemmas.Option.{same_Some}
 use Rattle.qx_base.specs.declared.errno.Errno.{Errno}
-use Rattle.qx_base.specs.declared.errno.Errno.TheVariants.{EBADF, EINTR, EINVAL, ENOSYS}
+use Rattle.qx_base.specs.declared.errno.Errno.TheVariants.{EBADF, EINTR, EINVAL}
 use Rattle.qx_devices.specs.declared.Device.{Device}
 use Rattle.qx_types.specs.Configuration.{Configuration, limits_of}
 use Rattle.qx_types.specs.UserLimits.{UserLimits}
@@ -25,11 +25,9 @@ use Rattle.qx_wire.specs.declared.message.Meaning.TheVariants.{Known, Malformed,
 use Rattle.qx_wire.specs.declared.message.Message.{Message}
 use Rattle.qx_wire.specs.declared.message.Message.TheVariants as msg
 use Rattle.qx_wire.specs.Reading.{meaning}
-use Rattle.qx_machine.specs.declared.rows.Addressed.{Addressed}
 use Rattle.qx_machine.specs.declared.rows.Caller.{Caller}
 use Rattle.qx_machine.specs.declared.rows.Client.{Client}
 use Rattle.qx_machine.specs.declared.rows.Context.{Context}
-use Rattle.qx_machine.specs.declared.rows.Effect.TheVariants.{Keeps}
 use Rattle.qx_machine.specs.declared.rows.Ocb.{Ocb}
 use Rattle.qx_machine.specs.declared.rows.Opened.{Opened}
 use Rattle.qx_machine.specs.declared.rows.Over.{Over}
@@ -42,24 +40,23 @@ use Rattle.qx_machine.specs.declared.rows.ThreadRow.{ThreadRow}
 use Rattle.qx_machine.specs.declared.rows.WaitingCall.{WaitingCall}
 use Rattle.qx_isolation.specs.declared.rows.OwnItem.{OwnItem}
 use Rattle.qx_isolation.specs.declared.rows.OwnItem.TheVariants as item
-use Rattle.qx_isolation.specs.Judgements.{◌>>=◌, found, need}
+use Rattle.qx_isolation.specs.Judgements.{found, need}
 use Rattle.qx_isolation.specs.Rows.{put_row, row_at, with_row}
 use Rattle.qx_machine.specs.Calls.{bytes_of, content_of}
 use Rattle.qx_machine.specs.Clients.{ClientStep, abandoned, call, client_given, interrupt_in, may_give, mount_by, pulse_taken, set_prio, spawn, spawn_number, take_reply, target_by, with_abandoned, without_process, answer_in}
 use Rattle.qx_machine.specs.Events.{first_pulse}
 use Rattle.qx_machine.specs.Functions.{Deed, Reply}
-use Rattle.qx_machine.specs.Managers.{close_client, manager_deed}
-use Rattle.qx_machine.specs.Mounting.{with_mount}
+use Rattle.qx_machine.specs.Managers.{close_client}
 use Rattle.qx_machine.specs.Parts.{Part, thread_at, thread_of, with_process}
-use Rattle.qx_machine.specs.Performing.{Served, after_answer, after_serving, caller_of, context_of, deed_of, dup_of, opened_by, read_message, serve_disconnect, serve_message, serve_pulse, taken_in, with_answer, with_answers, works_over}
+use Rattle.qx_machine.specs.Performing.{Served, after_answer, after_serving, caller_of, context_of, deed_of, dup_of, opened_by, serve_disconnect, serve_message, serve_pulse, taken_in, with_answer, with_answers, works_over}
 use Rattle.qx_machine.specs.PipeManager.{cancel_call}
 use Rattle.qx_machine.specs.Pipes.{Pipe}
-use Rattle.qx_machine.specs.Processes.{Process, after_error, answered_thread, asked_state, asked_thread, ended, living, new_process, new_thread, queued_thread, ranked_thread, ready_thread, served_state, served_thread, taken_state, taken_thread, with_queued, with_thread, without_server}
+use Rattle.qx_machine.specs.Processes.{Process, after_error, answered_thread, asked_state, asked_thread, ended, living, new_process, new_thread, queued_thread, ranked_thread, ready_thread, served_state, served_thread, taken_state, taken_thread, with_queued, with_thread}
 use Rattle.qx_machine.specs.Resources.{Resources}
 use Rattle.qx_machine.specs.Servers.{is_numbered}
 use Rattle.qx_machine.specs.Settling.{processes_left, row_left, stays}
 use Rattle.qx_machine.specs.Users.{client, serve, settle_part, take}
-use Rattle.qx_machine.specs.Waiting.{Pipes, caller_in, is_gone, is_of_process}
+use Rattle.qx_machine.specs.Waiting.{caller_in, is_gone, is_of_process}
 use Rattle.qx_machine.proofs.Gives.{Gives, found-row, gives_by, gives_done, gives_error, gives_on}
 use Rattle.qx_machine.proofs.Settled.{row_at-left}
 use Rattle.qx_machine.proofs.Waiters.{opened_by-caller}

@@ -1,12 +1,11 @@
 -- What each function of the managers comes to: it fails with an error that its message's list names, and those who wait, or are answered, may be told what they are.
-use Rattle.std.proofs.Common.{◌≡◌, inl, inr, ℕ, ◌==◌, List, [], ◌∷◌, ◌++◌, length, Bool, true, false, refl, sym, ap, ◌∙◌, subst}
-use Rattle.std.specs.Prelude.{ℤ, ◌&&◌, ◌||◌, Option, Some, None, Result, Ok, Err, is_some, nat_le, nat_lt, not, position, slice_set, if◌then◌else◌}
+use Rattle.std.proofs.Common.{◌≡◌, inl, inr, ℕ, ◌==◌, List, [], ◌∷◌, length, refl, sym, subst}
+use Rattle.std.specs.Prelude.{ℤ, ◌&&◌, ◌||◌, Option, Some, None, Result, Ok, Err, is_some, not, position, slice_set}
 use Rattle.std.specs.FinMap.{get, remove}
-use Rattle.std.specs.List.{AllByRecursion}
 use Rattle.std.proofs.lemmas.Bool.{cond_both}
 use Rattle.std.proofs.lemmas.Option.{same_Some}
 use Rattle.qx_base.specs.declared.errno.Errno.{Errno}
-use Rattle.qx_base.specs.declared.errno.Errno.TheVariants.{EACCES, EAGAIN, EBADF, EBUSY, EEXIST, EFBIG, EINTR, EINVAL, EISDIR, EMFILE, ENFILE, ENOENT, ENOSPC, ENOSYS, ENOTDIR, ENOTEMPTY, EPERM, EPIPE, ESPIPE}
+use Rattle.qx_base.specs.declared.errno.Errno.TheVariants.{EACCES, EAGAIN, EBADF, EBUSY, EEXIST, EFBIG, EINTR, EINVAL, EISDIR, EMFILE, ENFILE, ENOENT, ENOSPC, ENOTDIR, ENOTEMPTY, EPERM, EPIPE, ESPIPE}
 use Rattle.qx_devices.specs.declared.Device.{Device}
 use Rattle.qx_types.specs.declared.fields.NotifyAction.{NotifyAction}
 use Rattle.qx_types.specs.declared.fields.NotifyAction.TheVariants.{Poll, PollArm, TranArm}
@@ -14,8 +13,7 @@ use Rattle.qx_types.specs.declared.fields.Whence.{Whence}
 use Rattle.qx_types.specs.declared.names.Manager.{Manager}
 use Rattle.qx_types.specs.declared.outcome.Outcome.TheVariants.{WrongState}
 use Rattle.qx_types.specs.declared.flags.OFlags.{OFlags}
-use Rattle.qx_types.specs.declared.flags.TheConstants.OFlags.{CREAT, EXCL, TRUNC}
-use Rattle.qx_types.specs.declared.limits.TheConstants.Limits.{OFFSET}
+use Rattle.qx_types.specs.declared.flags.TheConstants.OFlags.{CREAT, TRUNC}
 use Rattle.qx_types.specs.declared.names.Manager.TheVariants as managers
 use Rattle.qx_wire.specs.declared.message.Message.{Message}
 use Rattle.qx_wire.specs.declared.message.Message.TheVariants as msg
@@ -34,11 +32,10 @@ use Rattle.qx_machine.specs.declared.rows.Opened.{Opened}
 use Rattle.qx_machine.specs.declared.rows.PulseWish.{PulseWish}
 use Rattle.qx_machine.specs.declared.rows.WaitingCall.{WaitingCall}
 use Rattle.qx_machine.specs.declared.rows.Wish.{Wish}
-use Rattle.qx_machine.specs.Defaults.{MadeInode, allows, chmod_block, cleared, close_dup, close_last, close_ocb, dup_open, free_block, is_own, list_block, made_at, make_directory, open_spot, open_existing, open_missing, open_path, opened, own_block, pipe_in, rename_path, rename_to, stat_block, stat_path, unlink_path, unnamed, with_both_changed, without_block, without_name, without_unused, writable}
-use Rattle.qx_machine.specs.Events.{Events, arm_event, arming, notified}
-use Rattle.qx_machine.specs.Files.{base, moved_by}
+use Rattle.qx_machine.specs.Defaults.{MadeInode, chmod_block, cleared, close_dup, close_last, close_ocb, dup_open, free_block, is_own, list_block, made_at, make_directory, open_spot, open_existing, open_missing, open_path, opened, own_block, pipe_in, rename_path, rename_to, stat_block, stat_path, unlink_path, unnamed, with_both_changed, without_block, without_name, without_unused, writable}
+use Rattle.qx_machine.specs.Events.{Events, notified}
 use Rattle.qx_machine.specs.Functions.{Deed, function_deed, message_deed, is_side, new_coid, new_dup, new_open, reply_alone, side_root}
-use Rattle.qx_machine.specs.Inodes.{Inodes, block_number, blocks_of_client, dup_block, has, inode_number, is_shared, is_unused, new_attribute, new_inode, open_block, reads, with_attribute, writes}
+use Rattle.qx_machine.specs.Inodes.{Inodes, block_number, blocks_of_client, has, inode_number, is_shared, new_attribute, new_inode, open_block, reads, with_attribute, writes}
 use Rattle.qx_isolation.specs.Judgements.{◌>>=◌, found, need}
 use Rattle.qx_machine.specs.Managers.{close_all, close_client, manager_deed, or_unreplied, own_kind, pipe_connect, pipe_io, ram_connect, ram_io}
 use Rattle.qx_machine.specs.Names.{Key, Names, Spot, inode_at, is_below, is_directory, is_empty, is_same_key, names_in, root_key, search as searched, spot, start, under, walk}

@@ -1,9 +1,7 @@
 -- What a judgement comes to: it gives what has a property, or it fails with an error that has one.
 use Rattle.std.proofs.Common.{◌≡◌, inl, inr, ℕ, Bool, true, false, List, [], ◌∷◌, ◌++◌, map, refl, sym, ap, ◌∙◌}
-use Rattle.std.specs.Prelude.{◌==◌, ◌&&◌, Option, Some, None, Result, Ok, Err, IfErr, IfOk, if◌then◌else◌, is_none, nat_le, nat_lt, slice_get}
-use Rattle.std.specs.List.{list_any}
+use Rattle.std.specs.Prelude.{◌==◌, Option, Some, None, Result, Ok, Err, IfErr, IfOk, if◌then◌else◌}
 use Rattle.std.proofs.lemmas.Bool.{cond_both, false≢true}
-use Rattle.std.specs.Str.{bytes_eq}
 use Rattle.qx_base.specs.declared.errno.Errno.{Errno}
 use Rattle.qx_base.specs.declared.errno.Errno.TheVariants.{EACCES, EAGAIN, EBADF, EEXIST, EINVAL, EMFILE, ENAMETOOLONG, ENOENT, ENOSPC, EPERM, EXDEV}
 use Rattle.qx_types.specs.Configuration.{Configuration, limits_of, name_bytes}
@@ -21,28 +19,23 @@ use Rattle.qx_types.specs.declared.request.Request.TheVariants as request
 use Rattle.qx_types.specs.declared.step.Step.{Step}
 use Rattle.qx_types.specs.declared.step.Step.TheVariants.{Call, Exit, Interrupt, Mount, Perform, Receive, SetPrio, Spawn, TakePulse, TakeReply}
 use Rattle.qx_types.specs.Step.{actor_of, user_of}
-use Rattle.qx_paths.specs.Mounts.{located, longest, mount_fault, name_fault, resolve, top_fault}
-use Rattle.qx_paths.specs.Paths.{begins_with_slash, component_fault, first_fault, or_fault, path_components, read_path, unless}
-use Rattle.qx_paths.specs.Prefixes.{MountPoint, is_at, is_under}
+use Rattle.qx_paths.specs.Mounts.{located, longest, mount_fault, resolve, top_fault}
+use Rattle.qx_paths.specs.Paths.{component_fault, first_fault, or_fault, read_path, unless}
+use Rattle.qx_paths.specs.Prefixes.{MountPoint}
 use Rattle.qx_paths.specs.declared.resolved.Resolved.{Resolved}
-use Rattle.qx_types.specs.declared.limits.TheConstants.Limits.{COMPONENT, PATH}
-use Rattle.qx_wire.specs.Rests.{is_component}
 use Rattle.qx_isolation.specs.declared.rows.OwnItem.{OwnItem}
-use Rattle.qx_isolation.specs.declared.rows.Held.{Held}
 use Rattle.qx_isolation.specs.Judgements.{◌>>=◌, found, need, or_refused}
 use Rattle.qx_isolation.specs.Rows.{row_at}
-use Rattle.qx_machine.specs.declared.rows.Addressed.{Addressed}
 use Rattle.qx_machine.specs.declared.rows.Over.{Over}
 use Rattle.qx_machine.specs.declared.rows.Over.TheVariants.{Side}
 use Rattle.qx_machine.specs.declared.rows.Pulse.{Pulse}
 use Rattle.qx_machine.specs.declared.rows.State.{State}
 use Rattle.qx_machine.specs.declared.rows.State.TheVariants as state
-use Rattle.qx_machine.specs.declared.rows.ThreadRow.{ThreadRow}
-use Rattle.qx_machine.specs.Calls.{Address, Opens, Connects, ConnectsBoth, Uses, Duplicates, address, can_serve, connection_at, free_connection, is_ready, may_call, place_of, request_in_ranges, target_at, to_place}
+use Rattle.qx_machine.specs.Calls.{Opens, Connects, ConnectsBoth, Uses, Duplicates, address, connection_at, free_connection, is_ready, may_call, place_of, request_in_ranges, target_at, to_place}
 use Rattle.qx_machine.specs.Clients.{ClientStep, answer_in, client_given, interrupt_in, may_give, mount_by, or_unchanged, outcome_of, pulse_taken, spawn_number, target_by}
 use Rattle.qx_machine.specs.Events.{first_pulse}
 use Rattle.qx_machine.specs.Laws.{is_refusal}
-use Rattle.qx_machine.specs.Machine.{World, After, client_step, is_worker, item_to_do, item_to_take, or_same_world, own_held, perform, receive, server_step, step, step_of}
+use Rattle.qx_machine.specs.Machine.{World, After, client_step, item_to_do, item_to_take, or_same_world, own_held, perform, receive, server_step, step, step_of}
 use Rattle.qx_machine.specs.Mounting.{new_mount}
 use Rattle.qx_machine.specs.Inodes.{inode_number}
 use Rattle.qx_machine.specs.Parts.{Part, thread_at}

@@ -1,18 +1,16 @@
 -- With which error a thread is answered in a run: with one that is named for what it sent last.
-use Rattle.std.proofs.Common.{◌≡◌, ◌≢◌, inl, inr, ℕ, zero, suc, ◌+◌, ◌≤◌, ◌==◌, Bool, true, false, List, [], ◌∷◌, ◌++◌, length, refl, sym, ap, ◌∙◌, subst, arith}
-use Rattle.std.specs.Prelude.{◌&&◌, ◌||◌, not, Option, Some, None, Result, Ok, Err, if◌then◌else◌, is_some, option_map, replicate, slice_set}
+use Rattle.std.proofs.Common.{◌≡◌, inl, inr, ℕ, zero, suc, ◌+◌, ◌≤◌, ◌==◌, true, false, List, [], ◌∷◌, ◌++◌, length, refl, sym, ap, ◌∙◌, subst, arith}
+use Rattle.std.specs.Prelude.{◌&&◌, not, Option, Some, None, Ok, option_map, replicate}
 use Rattle.std.specs.List.{AllByRecursion, count_by}
 use Rattle.std.proofs.lemmas.Bool.{cases_eq, eq-eqb, eqb-true}
 use Rattle.std.proofs.lemmas.Option.{same_Some}
 use Rattle.qx_base.specs.declared.errno.Errno.{Errno}
 use Rattle.qx_devices.specs.declared.Device.{Device}
 use Rattle.qx_types.specs.Configuration.{Configuration}
-use Rattle.qx_types.specs.Managers.{manager_number}
 use Rattle.qx_types.specs.Step.{actor_of, user_of}
 use Rattle.qx_types.specs.declared.limits.TheConstants.Limits.{INODES}
 use Rattle.qx_types.specs.declared.names.Actor.{Actor}
 use Rattle.qx_types.specs.declared.names.Thread.{Thread}
-use Rattle.qx_types.specs.declared.outcome.Answer.{Answer}
 use Rattle.qx_types.specs.declared.outcome.Answer.TheVariants as answer
 use Rattle.qx_types.specs.declared.outcome.Outcome.TheVariants.{Failed, WrongState}
 use Rattle.qx_types.specs.declared.step.Step.{Step}
@@ -20,22 +18,18 @@ use Rattle.qx_types.specs.declared.step.Step.TheVariants.{TakeReply}
 use Rattle.qx_types.specs.declared.names.Manager.{Manager}
 use Rattle.qx_types.specs.declared.names.Manager.TheVariants as managers
 use Rattle.qx_types.proofs.Managers.{same_manager}
-use Rattle.qx_machine.specs.declared.rows.Attribute.{Attribute}
-use Rattle.qx_machine.specs.declared.rows.Connection.{Connection}
 use Rattle.qx_machine.specs.declared.rows.Kind.{Kind}
 use Rattle.qx_machine.specs.declared.rows.Kind.TheVariants as kind
 use Rattle.qx_machine.specs.declared.rows.Ocb.{Ocb}
-use Rattle.qx_machine.specs.declared.rows.Opened.{Opened}
 use Rattle.qx_machine.specs.declared.rows.Sent.{Sent}
 use Rattle.qx_machine.specs.declared.rows.State.{State}
 use Rattle.qx_machine.specs.declared.rows.State.TheVariants as state
-use Rattle.qx_machine.specs.declared.rows.Target.{Target}
 use Rattle.qx_machine.specs.declared.rows.ThreadRow.{ThreadRow}
 use Rattle.qx_machine.specs.declared.rows.WaitingCall.{WaitingCall}
 use Rattle.qx_isolation.specs.declared.rows.Held.{Held}
 use Rattle.qx_isolation.specs.Judgements.{◌>>=◌, found}
 use Rattle.qx_isolation.specs.Rows.{row_at}
-use Rattle.qx_machine.specs.Clients.{ClientStep, answer_in, or_unchanged, outcome_of, take_reply}
+use Rattle.qx_machine.specs.Clients.{answer_in, or_unchanged, outcome_of, take_reply}
 use Rattle.qx_machine.specs.Machine.{World, boot, client_step, named_thread, own_held, performed_part, received_part, server_step, step, step_end, step_of, with_empty_hand, with_taken}
 use Rattle.qx_machine.specs.Runs.{run, world_after}
 use Rattle.qx_machine.specs.Users.{boot_part, client, serve, settle_part, take}
@@ -43,21 +37,18 @@ use Rattle.qx_machine.specs.Defaults.{is_own}
 use Rattle.qx_machine.specs.Managers.{own_kind}
 use Rattle.qx_machine.specs.Parts.{Change, Part, thread_at, thread_of, with_thread_of}
 use Rattle.qx_machine.specs.Pipes.{Pipe, pipe_of}
-use Rattle.qx_machine.specs.Processes.{Process, ready_thread}
-use Rattle.qx_machine.specs.Resources.{Resources}
-use Rattle.qx_machine.specs.Servers.{is_numbered}
-use Rattle.qx_machine.specs.Waiting.{Pipes, is_gone}
+use Rattle.qx_machine.specs.Processes.{ready_thread}
+use Rattle.qx_machine.specs.Waiting.{is_gone}
 use Rattle.qx_machine.proofs.Runs.{world_after-append}
 use Rattle.qx_isolation.proofs.Places.{row_at-set_cases, row_at-set_other}
 use Rattle.qx_isolation.proofs.Workers.{server_leaves}
 use Rattle.qx_attr.specs.inner.Counts.{one}
-use Rattle.qx_invariants.specs.Errors.{IsOneOf, MayFail, queued_or, sent_by, sent_from, sent_in}
+use Rattle.qx_invariants.specs.Errors.{IsOneOf, MayFail, last_sent, queued_or, sent_by, sent_from, sent_in}
 use Rattle.qx_invariants.specs.Holds.{HasConnections, HasContents, HasKinds, HasNames, WaitsOnce, calls_of, in_inode}
-use Rattle.qx_invariants.specs.Waits.{count_state_waiting, count_waiting, count_waiting_of, is_of, unless_gone, waits}
-use Rattle.qx_invariants.proofs.Answering.{IsLeft, MayRead, MayWrite, read_errors, write_errors}
+use Rattle.qx_invariants.specs.Waits.{count_state_waiting, count_waiting_of, is_of, unless_gone, waits}
+use Rattle.qx_invariants.proofs.Answering.{IsLeft, read_errors, write_errors}
 use Rattle.qx_invariants.proofs.Asked.{AreAt, Fits, IsAt, Left, TellsCall, WellLeft, WellTold, client_left, serve_left, settle_left, take_left, told_left}
 use Rattle.qx_invariants.proofs.Balances.{set_other}
-use Rattle.qx_invariants.proofs.Clients.{IsOver}
 use Rattle.qx_invariants.proofs.Counts.{count-cons}
 use Rattle.qx_invariants.proofs.Reached.{run_connections, run_contents, run_holds, run_kinds, run_stands}
 use Rattle.qx_invariants.proofs.Rows.{the-some}
@@ -293,13 +284,13 @@ taken_by part thread error = by (thread_at part thread.proc.num thread.tid) refl
         which (state.Answered (answer.Reply status bytes)) same is = absurd (cc)
         which (state.Answered (answer.Failed other)) same is = record { row = row; there = there; answered = same ∙ ap (λ e. state.Answered (answer.Failed e)) (cc) }
 
-pub errors_named : (config : Configuration) (steps : List Step) (thread : Thread) (error : Errno) → (step (run config steps).world (TakeReply thread)).outcome ≡ Failed error → MayFail (sent_from thread (boot config) None steps) error
+pub errors_named : (config : Configuration) (steps : List Step) (thread : Thread) (error : Errno) → (step (run config steps).world (TakeReply thread)).outcome ≡ Failed error → MayFail (last_sent thread config steps) error
 unfolding step client
 errors_named config steps thread error is = by (row_at (run config steps).world.parts thread.proc.user.0) refl is
   where
-    by : (row : Option Part) → row_at (run config steps).world.parts thread.proc.user.0 ≡ row → (client_step (run config steps).world thread.proc.user.0 (TakeReply thread) row).outcome ≡ Failed error → MayFail (sent_from thread (boot config) None steps) error
+    by : (row : Option Part) → row_at (run config steps).world.parts thread.proc.user.0 ≡ row → (client_step (run config steps).world thread.proc.user.0 (TakeReply thread) row).outcome ≡ Failed error → MayFail (last_sent thread config steps) error
     by None there is = absurd (cc)
     by (Some part) there is =
         let taken = taken_by part thread error is in
         let told = (run_reaches config thread.proc.user.0 steps).told part there in
-        subst (Fits (λ e. MayFail (sent_from thread (boot config) None steps) e)) taken.answered (told.rows thread.proc.num thread.tid taken.row taken.there)
+        subst (Fits (λ e. MayFail (last_sent thread config steps) e)) taken.answered (told.rows thread.proc.num thread.tid taken.row taken.there)

@@ -1,7 +1,9 @@
--- The errors that `docs/MACHINE.md` names, in the order of that page: how each step is refused, and with which errors each message is answered.
+-- The errors that `docs/MACHINE.md` names: how each step may be refused, and with which errors each message may be answered. The parts below
+-- have that page's headings, in its order.
 use Rattle.std.specs.Prelude.{◌≡◌, ◌⊎◌, List, [], ◌∷◌, ◌++◌, map, Option, Some, None}
 use Rattle.qx_base.specs.declared.errno.Errno.{Errno}
 use Rattle.qx_base.specs.declared.errno.Errno.TheVariants.{EACCES, EAGAIN, EBADF, EBUSY, EEXIST, EFBIG, EINTR, EINVAL, EISDIR, EMFILE, ENAMETOOLONG, ENFILE, ENOENT, ENOSPC, ENOSYS, ENOTDIR, ENOTEMPTY, EPERM, EPIPE, ESPIPE, EXDEV}
+use Rattle.qx_types.specs.Configuration.{Configuration}
 use Rattle.qx_types.specs.declared.names.Manager.{Manager}
 use Rattle.qx_types.specs.declared.names.Manager.TheVariants.{Device, Pipe, Ram}
 use Rattle.qx_types.specs.declared.names.Thread.{Thread}
@@ -29,7 +31,7 @@ abbrev pub IsAmong : {A : Type 0} → A → List A → Type 0
 IsAmong it [] = ⊥
 IsAmong it (first ∷ rest) = (it ≡ first) ⊎ IsAmong it rest
 
--- ---- paths
+-- ---- Paths and mounts
 
 -- a path's form
 abbrev pub form : List Errno
@@ -39,9 +41,9 @@ form = ENAMETOOLONG ∷ EINVAL ∷ []
 abbrev pub path : List Errno
 path = form ++ EACCES ∷ ENOENT ∷ []
 
--- ---- the ten steps
+-- ---- The ten steps
 
--- a call, after what all calls are refused with
+-- a call, by what its request names
 abbrev pub call : Request → List Errno
 call (request.OpenPath flags mode name) = path ++ EMFILE ∷ EAGAIN ∷ []
 call (request.StatPath name) = path ++ EAGAIN ∷ []
@@ -51,7 +53,7 @@ call (request.Rename old new) = path ++ EXDEV ∷ EAGAIN ∷ []
 call (request.Dup coid) = EBADF ∷ EMFILE ∷ []
 call _ = EBADF ∷ []
 
--- in a wrong state, or with one of these errors
+-- a wrong state, or one of these errors
 abbrev pub refused : List Errno → List Outcome
 refused errors = WrongState ∷ map Refused errors
 
@@ -68,26 +70,31 @@ refusals (Mount thread name manager) = refused (form ++ EACCES ∷ EEXIST ∷ EN
 refusals (Receive worker manager) = WrongState ∷ Busy ∷ Idle ∷ []
 refusals (Perform worker moment) = WrongState ∷ Nothing ∷ []
 
--- ---- performing a message
+-- ---- Performing a message
 
--- with one of these errors, or with any: where a device's own function answers, the errors are its author's
+-- these errors; or any, where a device's own function answers: there they are its author's
 pub data Errors : Type 0 where
   Any : Errors
   These : (errors : List Errno) → Errors
 
--- what a connection has open
-abbrev pub over : List Errno → Errors
-over errors = These (EINVAL ∷ EBADF ∷ errors)
+abbrev pub IsOneOf : Errors → Errno → Type 0
+IsOneOf Any error = Unit {0}
+IsOneOf (These errors) error = IsAmong error errors
 
--- a walk from a mount's root
-abbrev pub walked : List Errno → Errors
-walked errors = These (EINVAL ∷ ENOTDIR ∷ EACCES ∷ ENOENT ∷ errors)
-
--- no function
+-- the manager has no function for the message
 abbrev pub missing : Errors
 missing = These (ENOSYS ∷ [])
 
--- the RAM manager: files and directories
+-- a message over a connection that should be there, and a DUP
+abbrev pub over : List Errno → Errors
+over errors = These (EINVAL ∷ EBADF ∷ errors)
+
+-- a message to a path, which is walked from its mount's root
+abbrev pub walked : List Errno → Errors
+walked errors = These (EINVAL ∷ ENOTDIR ∷ EACCES ∷ ENOENT ∷ errors)
+
+-- ---- Files and directories
+
 abbrev pub ram : Message → Errors
 ram (msg.Open flags mode rest) = walked (EEXIST ∷ EISDIR ∷ ENFILE ∷ ENOSPC ∷ [])
 ram (msg.Stat rest) = walked []
@@ -104,7 +111,9 @@ ram (msg.Dup old) = over (EMFILE ∷ [])
 ram msg.Close = over []
 ram (msg.Notify action conditions code value) = over (EAGAIN ∷ [])
 
--- pipes; what is not named here is as of files
+-- ---- Pipes
+
+-- where they differ from files
 abbrev pub pipe : Message → Errors
 pipe (msg.Mknod mode rest) = missing
 pipe (msg.Rename rests) = missing
@@ -113,35 +122,35 @@ pipe (msg.Write bytes) = over (EPIPE ∷ EAGAIN ∷ EINTR ∷ [])
 pipe (msg.Lseek whence offset) = over (ESPIPE ∷ [])
 pipe message = ram message
 
--- devices; what is not named here is as of pipes
+-- ---- Devices
+
+-- where they differ from pipes
 abbrev pub device : Message → Errors
 device (msg.Read count) = Any
 device (msg.Write bytes) = Any
 device message = pipe message
 
--- what a manager answers to a message
+-- ---- all of them
+
+-- a message of each manager
 abbrev pub served : Manager → Message → Errors
 served Ram = ram
 served Pipe = pipe
 served (Device of_an_author) = device
 
--- and to any bytes
+-- any bytes
 abbrev pub performed : Manager → Meaning → Errors
 performed manager Malformed = These (EINVAL ∷ [])
 performed manager Unknown = These (ENOSYS ∷ [])
 performed manager (Known message) = served manager message
 
-abbrev pub IsOneOf : Errors → Errno → Type 0
-IsOneOf Any error = Unit {0}
-IsOneOf (These errors) error = IsAmong error errors
-
--- what a message is answered with: EINTR if it is interrupted before it is received, or one of the errors of its manager
+-- what was sent may be answered so: with EINTR if its thread was interrupted before it was received, or by its manager
 abbrev pub MayAnswer : Sent → Errno → Type 0
 MayAnswer sent error = (error ≡ EINTR) ⊎ IsOneOf (performed sent.target.manager (meaning sent.bytes)) error
 
 -- ---- what a thread sent last
 
--- a message stands in a line, sent just now or before; else it is what was sent before
+-- the message that stands in a line, or else what was sent before
 abbrev pub queued_or : Option Sent → State → Option Sent
 queued_or before (Queued sent) = Some sent
 queued_or before _ = before
@@ -154,12 +163,15 @@ abbrev pub sent_by : Thread → Option Sent → Option Part → Option Sent
 sent_by thread before None = before
 sent_by thread before (Some part) = sent_in before (thread_at part thread.proc.num thread.tid)
 
--- by steps from a world on
+-- looked at after each step
 abbrev pub sent_from : Thread → World → Option Sent → List Step → Option Sent
 sent_from thread w before [] = before
 sent_from thread w before (e ∷ steps) = sent_from thread (step w e).world (sent_by thread before (row_at (step w e).world.parts thread.proc.user.0)) steps
 
--- a message was sent, and may be answered with that error
+abbrev pub last_sent : Thread → Configuration → List Step → Option Sent
+last_sent thread config steps = sent_from thread (boot config) None steps
+
+-- something was sent, and may be answered so
 abbrev pub MayFail : Option Sent → Errno → Type 0
 MayFail None error = ⊥
 MayFail (Some sent) error = MayAnswer sent error

@@ -4,10 +4,14 @@ ghost use Rattle.std.specs.Prelude.{◌≡◌, ℕ, ◌+◌, ◌≤◌, ◌<◌,
 ghost use Rattle.std.specs.Cmp.Lexicographic.{slice_cmp};
 ghost use Rattle.std.specs.List.Sorted.{IsStrictlySortedBy};
 ghost use Rattle.std.specs.Ordering.{nat_cmp};
+ghost use Rattle.qx_base.specs.declared.errno.Errno.{Errno};
 ghost use Rattle.qx_types.specs.Configuration.{Configuration, limits_of, name_bytes};
 ghost use Rattle.qx_types.specs.declared.limits.TheConstants.Limits.{PROCESSES};
 ghost use Rattle.qx_types.specs.declared.names.Manager.{Manager};
+ghost use Rattle.qx_types.specs.declared.names.Thread.{Thread};
+ghost use Rattle.qx_types.specs.declared.outcome.Outcome.TheVariants.{Failed};
 ghost use Rattle.qx_types.specs.declared.step.Step.{Step};
+ghost use Rattle.qx_types.specs.declared.step.Step.TheVariants.{TakeReply};
 ghost use Rattle.qx_machine.specs.declared.rows.Client.{Client};
 ghost use Rattle.qx_machine.specs.declared.rows.Conditions.{Conditions};
 ghost use Rattle.qx_machine.specs.Events.{Events, event_count, triggered};
@@ -25,7 +29,7 @@ ghost use Rattle.qx_machine.specs.Runs.{run};
 ghost use Rattle.qx_machine.specs.Settling.{is_held};
 ghost use Rattle.qx_machine.specs.Waiting.{is_call};
 ghost use Rattle.qx_invariants.specs.Changes.{Become};
-ghost use Rattle.qx_invariants.specs.Errors.{IsAmong, refusals};
+ghost use Rattle.qx_invariants.specs.Errors.{IsAmong, MayFail, last_sent, refusals};
 ghost use Rattle.qx_invariants.specs.Holds.{HasClients, HasConnections, HasContents, HasFewConnections, HasFewProcesses, HasFewServers, HasKinds, HasLimits, HasMade, HasMounts, HasNames, HasOpenWaiters, HasOwnWaiters, HasRoom, HasSettledPipes, HasTree, HasUses, HoldsInRuns, HoldsOfParts, IsOwnedBy, WaitsOnce, due_pulses, greatest_prio};
 ghost use Rattle.qx_invariants.specs.Waits.{count_waiting};
 
@@ -201,8 +205,15 @@ pub fn threads_wait_once()
     ensures calls { HoldsInRuns (λ r. (process thread number : ℕ) → count_waiting (is_call process thread number) r.pipes ≤ 1) }
 {}
 
-/// A step that is refused is refused in a way that its list names, whatever the world is.
+/// A step that is refused, in any world, is refused as its list says.
 #[tactic(auto, using(crate::proofs::Judged::refusals_named))]
 pub fn refusals_are_named()
     ensures { (w : World) (e : Step) → is_refusal (step w e).outcome ≡ true → IsAmong (step w e).outcome (refusals e) }
+{}
+
+/// An error that a thread takes as its answer is one with which that what it sent last may be answered, at once or after it
+/// waited.
+#[tactic(auto, using(crate::proofs::LastSent::errors_named))]
+pub fn errors_are_named()
+    ensures { (config : Configuration) (steps : List Step) (thread : Thread) (error : Errno) → (step (run config steps).world (TakeReply thread)).outcome ≡ Failed error → MayFail (last_sent thread config steps) error }
 {}
