@@ -85,11 +85,11 @@ IsOneOf (These errors) error = IsAmong error errors
 abbrev pub missing : Errors
 missing = These (ENOSYS ∷ [])
 
--- a message over a connection that should be there, and a DUP
+-- a message over a connection, or a DUP: it came another way, or the connection is not there
 abbrev pub over : List Errno → Errors
 over errors = These (EINVAL ∷ EBADF ∷ errors)
 
--- a message to a path, which is walked from its mount's root
+-- a message to a path: it came another way, or the walk from its mount's root fails
 abbrev pub walked : List Errno → Errors
 walked errors = These (EINVAL ∷ ENOTDIR ∷ EACCES ∷ ENOENT ∷ errors)
 
