@@ -161,7 +161,7 @@ abbrev Goes : ClientStep → Type 0
 Goes given = is_refusal given.outcome ≡ false
 
 -- a step may be refused so
-abbrev May : Step → Outcome → Type 0
+abbrev pub May : Step → Outcome → Type 0
 May e outcome = IsAmong outcome (refusals e)
 
 module _ (N : Outcome → Type 0) where
@@ -237,6 +237,16 @@ module _ (config : Configuration) (user : ℕ) (mounts : List MountPoint) (proce
   target_comes : (thread : Thread) (asked : Request) → Comes Anything (May (Call thread asked)) (target_at config user mounts processes process prio (address asked))
   target_comes thread asked = asked_comes (May (Call thread asked)) asked (λ error named. inr (among_map Refused error (EINVAL ∷ EAGAIN ∷ call asked) (inr (inr named))))
 
+pub addressed_comes : (config : Configuration) (user : ℕ) (mounts : List MountPoint) (processes : List (Option Process)) (thread : Thread) (asked : Request) → Comes Anything (May (Call thread asked)) (target_by config user mounts processes thread asked)
+addressed_comes config user mounts processes thread asked =
+    comes_on _ _ (found (row_at processes thread.proc.num) WrongState) _ (comes_found _ _ _ (inl refl)) (λ process is_process.
+    comes_on _ _ (found (row_at process.threads thread.tid) WrongState) _ (comes_found _ _ _ (inl refl)) (λ row is_row.
+    comes_on _ _ (may_call row asked) _
+    (comes_on _ _ (need (is_ready row.state) WrongState) _ (comes_need _ _ _ (inl refl)) (λ ready is_ready.
+    comes_on _ _ (need (request_in_ranges asked) (Refused EINVAL)) _ (comes_need _ _ _ (inr (inl refl))) (λ valid is_valid.
+    comes_on _ _ (need _ (Refused EAGAIN)) _ (comes_need _ _ _ (inr (inr (inl refl)))) (λ countable is_countable. comes_done _ _ _ tt))))
+    (λ may is_may. target_comes config user mounts processes process row.prio thread asked)))
+
 answer_goes : (given : Answer) → is_refusal (outcome_of given) ≡ false
 answer_goes (answer.Reply status bytes) = refl
 answer_goes (answer.Failed error) = refl
@@ -264,16 +274,7 @@ module _ (config : Configuration) (user : ℕ) (held : List OwnItem) (part : Par
   IsJudged e = Comes Goes (May e) (client_given config user held part e)
 
   call_judged : (thread : Thread) (asked : Request) → IsJudged (Call thread asked)
-  call_judged thread asked =
-      comes_on _ _ (target_by config user part.resources.mounts part.processes thread asked) _
-      (comes_on _ _ (found (row_at part.processes thread.proc.num) WrongState) _ (comes_found _ _ _ (inl refl)) (λ process is_process.
-      comes_on _ _ (found (row_at process.threads thread.tid) WrongState) _ (comes_found _ _ _ (inl refl)) (λ row is_row.
-      comes_on _ _ (may_call row asked) _
-      (comes_on _ _ (need (is_ready row.state) WrongState) _ (comes_need _ _ _ (inl refl)) (λ ready is_ready.
-      comes_on _ _ (need (request_in_ranges asked) (Refused EINVAL)) _ (comes_need _ _ _ (inr (inl refl))) (λ valid is_valid.
-      comes_on _ _ (need _ (Refused EAGAIN)) _ (comes_need _ _ _ (inr (inr (inl refl)))) (λ countable is_countable. comes_done _ _ _ tt))))
-      (λ may is_may. target_comes config user part.resources.mounts part.processes process row.prio thread asked))))
-      (λ addressed is. comes_done _ _ _ refl)
+  call_judged thread asked = comes_on _ _ (target_by config user part.resources.mounts part.processes thread asked) _ (addressed_comes config user part.resources.mounts part.processes thread asked) (λ addressed is. comes_done _ _ _ refl)
 
   reply_judged : (thread : Thread) → IsJudged (TakeReply thread)
   reply_judged thread =

@@ -1,10 +1,11 @@
 -- With which error a thread is answered in a run: with one that is named for what it sent last.
-use Rattle.std.proofs.Common.{◌≡◌, inl, inr, ℕ, zero, suc, ◌+◌, ◌≤◌, ◌==◌, true, false, List, [], ◌∷◌, ◌++◌, length, refl, sym, ap, ◌∙◌, subst, arith}
-use Rattle.std.specs.Prelude.{◌&&◌, not, Option, Some, None, Ok, option_map, replicate}
+use Rattle.std.proofs.Common.{◌≡◌, inl, inr, ℕ, zero, suc, ◌+◌, ◌≤◌, ◌==◌, true, false, List, [], ◌∷◌, ◌++◌, length, map, refl, sym, ap, ◌∙◌, subst, arith}
+use Rattle.std.specs.Prelude.{◌&&◌, ◌||◌, not, Option, Some, None, Result, Ok, Err, if◌then◌else◌, option_map, replicate}
 use Rattle.std.specs.List.{AllByRecursion, count_by}
-use Rattle.std.proofs.lemmas.Bool.{cases_eq, eq-eqb, eqb-true}
+use Rattle.std.proofs.lemmas.Bool.{cases_eq, eq-eqb, eqb-true, ne_eqb}
 use Rattle.std.proofs.lemmas.Option.{same_Some}
 use Rattle.qx_base.specs.declared.errno.Errno.{Errno}
+use Rattle.qx_base.specs.declared.errno.Errno.TheVariants.{EAGAIN, EINVAL}
 use Rattle.qx_devices.specs.declared.Device.{Device}
 use Rattle.qx_types.specs.Configuration.{Configuration}
 use Rattle.qx_types.specs.Step.{actor_of, user_of}
@@ -12,12 +13,16 @@ use Rattle.qx_types.specs.declared.limits.TheConstants.Limits.{INODES}
 use Rattle.qx_types.specs.declared.names.Actor.{Actor}
 use Rattle.qx_types.specs.declared.names.Thread.{Thread}
 use Rattle.qx_types.specs.declared.outcome.Answer.TheVariants as answer
-use Rattle.qx_types.specs.declared.outcome.Outcome.TheVariants.{Failed, WrongState}
+use Rattle.qx_types.specs.declared.outcome.Outcome.{Outcome}
+use Rattle.qx_types.specs.declared.outcome.Outcome.TheVariants as outcome
+use Rattle.qx_types.specs.declared.outcome.Outcome.TheVariants.{Failed, Refused, WrongState}
+use Rattle.qx_types.specs.declared.request.Request.{Request}
 use Rattle.qx_types.specs.declared.step.Step.{Step}
-use Rattle.qx_types.specs.declared.step.Step.TheVariants.{TakeReply}
+use Rattle.qx_types.specs.declared.step.Step.TheVariants.{Call, TakeReply}
 use Rattle.qx_types.specs.declared.names.Manager.{Manager}
 use Rattle.qx_types.specs.declared.names.Manager.TheVariants as managers
 use Rattle.qx_types.proofs.Managers.{same_manager}
+use Rattle.qx_machine.specs.declared.rows.Addressed.{Addressed}
 use Rattle.qx_machine.specs.declared.rows.Kind.{Kind}
 use Rattle.qx_machine.specs.declared.rows.Kind.TheVariants as kind
 use Rattle.qx_machine.specs.declared.rows.Ocb.{Ocb}
@@ -27,29 +32,40 @@ use Rattle.qx_machine.specs.declared.rows.State.TheVariants as state
 use Rattle.qx_machine.specs.declared.rows.ThreadRow.{ThreadRow}
 use Rattle.qx_machine.specs.declared.rows.WaitingCall.{WaitingCall}
 use Rattle.qx_isolation.specs.declared.rows.Held.{Held}
+use Rattle.qx_isolation.specs.declared.rows.OwnItem.{OwnItem}
+use Rattle.qx_isolation.specs.declared.rows.OwnItem.TheVariants as item
 use Rattle.qx_isolation.specs.Judgements.{◌>>=◌, found}
 use Rattle.qx_isolation.specs.Rows.{row_at}
-use Rattle.qx_machine.specs.Clients.{answer_in, or_unchanged, outcome_of, take_reply}
+use Rattle.qx_machine.specs.Calls.{bytes_of, content_of}
+use Rattle.qx_machine.specs.Clients.{answer_in, call, or_unchanged, outcome_of, take_reply, target_by}
 use Rattle.qx_machine.specs.Machine.{World, boot, client_step, named_thread, own_held, performed_part, received_part, server_step, step, step_end, step_of, with_empty_hand, with_taken}
 use Rattle.qx_machine.specs.Runs.{run, world_after}
 use Rattle.qx_machine.specs.Users.{boot_part, client, serve, settle_part, take}
 use Rattle.qx_machine.specs.Defaults.{is_own}
 use Rattle.qx_machine.specs.Managers.{own_kind}
-use Rattle.qx_machine.specs.Parts.{Change, Part, thread_at, thread_of, with_thread_of}
+use Rattle.qx_machine.specs.Parts.{Change, Part, Put, thread_at, thread_of, with_process, with_thread_of}
 use Rattle.qx_machine.specs.Pipes.{Pipe, pipe_of}
-use Rattle.qx_machine.specs.Processes.{ready_thread}
+use Rattle.qx_machine.specs.Processes.{Process, queued_thread, ready_thread, with_queued}
+use Rattle.qx_machine.specs.Settling.{is_kept, row_left}
 use Rattle.qx_machine.specs.Waiting.{is_gone}
+use Rattle.qx_machine.proofs.Gives.{Gives, gives-value}
 use Rattle.qx_machine.proofs.Runs.{world_after-append}
+use Rattle.qx_machine.proofs.Settled.{row_at-left}
 use Rattle.qx_isolation.proofs.Places.{row_at-set_cases, row_at-set_other}
 use Rattle.qx_isolation.proofs.Workers.{server_leaves}
 use Rattle.qx_attr.specs.inner.Counts.{one}
-use Rattle.qx_invariants.specs.Errors.{IsOneOf, MayFail, last_sent, queued_or, sent_by, sent_from, sent_in}
+use Rattle.qx_attr.proofs.CountLemmas.{within_table}
+use Rattle.qx_attr.proofs.TableLemmas.{set_at}
+use Rattle.qx_invariants.specs.Errors as errors
+use Rattle.qx_invariants.specs.Errors.{IsAmong, IsMessageOf, IsOneOf, MayFail, last_sent, queued_or, refused, sent_by, sent_from, sent_in}
 use Rattle.qx_invariants.specs.Holds.{HasConnections, HasContents, HasKinds, HasNames, WaitsOnce, calls_of, in_inode}
 use Rattle.qx_invariants.specs.Waits.{count_state_waiting, count_waiting_of, is_of, unless_gone, waits}
 use Rattle.qx_invariants.proofs.Answering.{IsLeft, read_errors, write_errors}
 use Rattle.qx_invariants.proofs.Asked.{AreAt, Fits, IsAt, Left, TellsCall, WellLeft, WellTold, client_left, serve_left, settle_left, take_left, told_left}
-use Rattle.qx_invariants.proofs.Balances.{set_other}
+use Rattle.qx_invariants.proofs.Balances.{set_other, thread_changed}
 use Rattle.qx_invariants.proofs.Counts.{count-cons}
+use Rattle.qx_invariants.proofs.Judged.{Anything, Comes, May, addressed_comes}
+use Rattle.qx_invariants.proofs.Once.{IsReadyThread, over_changes, target-ready}
 use Rattle.qx_invariants.proofs.Reached.{run_connections, run_contents, run_holds, run_kinds, run_stands}
 use Rattle.qx_invariants.proofs.Rows.{the-some}
 use Rattle.qx_invariants.proofs.Steps.{boot-each}
@@ -294,3 +310,86 @@ errors_named config steps thread error is = by (row_at (run config steps).world.
         let taken = taken_by part thread error is in
         let told = (run_reaches config thread.proc.user.0 steps).told part there in
         subst (Fits (λ e. MayFail (last_sent thread config steps) e)) taken.answered (told.rows thread.proc.num thread.tid taken.row taken.there)
+
+-- ---- a call is what a thread sent last
+
+-- a call that is refused is not sent
+refused_unsent : (errors : List Errno) → IsAmong outcome.Sent (refused errors) → ⊥
+refused_unsent errors (inl same) = absurd (cc)
+refused_unsent errors (inr later) = by errors later
+  where
+    by : (errors : List Errno) → IsAmong outcome.Sent (map Refused errors) → ⊥
+    by [] among = among
+    by (error ∷ errors) (inl same) = absurd (cc)
+    by (error ∷ errors) (inr later) = by errors later
+
+-- a part in which a thread's message stands in a line
+record IsQueued (part : Part) (process thread : ℕ) (sent : Sent) : Type 0 where
+  row : ThreadRow
+  there : thread_at part process thread ≡ Some row
+  queued : row.state ≡ state.Queued sent
+
+-- so it stands at the end of the step
+queued_settled : (before : Part) (held : List OwnItem) (part : Part) (number thread : ℕ) (sent : Sent) → IsQueued part number thread sent → IsQueued (settle_part before held part) number thread sent
+unfolding settle_part
+queued_settled before held part number thread sent h = record {
+  row = h.row;
+  there = ap (thread_of thread) (row_at-left held part.resources.pipes 0 number part.processes) ∙ by (row_at part.processes number) h.there;
+  queued = h.queued;
+}
+  where
+    lives : (threads : List (Option ThreadRow)) → row_at threads thread ≡ Some h.row → (length threads == 0) ≡ false
+    lives [] is = absurd (cc)
+    lives (row ∷ threads) is = ne_eqb (length (row ∷ threads)) 0 (λ none. omega (arith, none))
+
+    by : (row : Option Process) → thread_of thread row ≡ Some h.row → thread_of thread (row_left held part.resources.pipes (0 + number) row) ≡ Some h.row
+    by None is = is
+    by (Some process) is = subst (λ b. thread_of thread (if not b || is_kept held part.resources.pipes (0 + number) process then Some process else None) ≡ Some h.row) (sym (lives process.threads is)) is
+
+-- the message of a call
+abbrev message_of : Request → Addressed → Sent
+message_of asked addressed = record { target = addressed.target; is_asked = false; bytes = bytes_of (content_of asked addressed.rest addressed.to) }
+
+called : (config : Configuration) (user : ℕ) (part : Part) (thread : Thread) (asked : Request) → (or_unchanged part (call config user part thread asked)).outcome ≡ outcome.Sent
+    → (addressed : Addressed) × IsQueued (or_unchanged part (call config user part thread asked)).part thread.proc.num thread.tid (message_of asked addressed)
+called config user part thread asked is =
+    by (target_by config user part.resources.mounts part.processes thread asked) (target-ready config user part.resources.mounts part thread asked) (addressed_comes config user part.resources.mounts part.processes thread asked) is
+  where
+    by : (given : Result Addressed Outcome) → Gives (λ (_ : Addressed). IsReadyThread part thread.proc.num thread.tid) given → Comes Anything (May (Call thread asked)) given
+        → (or_unchanged part (given >>= λ addressed. Ok (record { outcome = outcome.Sent; part = with_process thread.proc.num (with_queued thread.tid (message_of asked addressed)) part; changes = Put addressed.target.manager (item.Message thread.proc.num thread.tid) addressed.target.prio.0 ∷ [] }))).outcome ≡ outcome.Sent
+        → (addressed : Addressed) × IsQueued (or_unchanged part (given >>= λ addressed. Ok (record { outcome = outcome.Sent; part = with_process thread.proc.num (with_queued thread.tid (message_of asked addressed)) part; changes = Put addressed.target.manager (item.Message thread.proc.num thread.tid) addressed.target.prio.0 ∷ [] }))).part thread.proc.num thread.tid (message_of asked addressed)
+    by (Err outcome) ready comes is = absurd (refused_unsent (EINVAL ∷ EAGAIN ∷ errors.call asked) (subst (May (Call thread asked)) is comes.fails))
+    by (Ok addressed) ready comes is =
+        let its = gives-value (λ (_ : Addressed). IsReadyThread part thread.proc.num thread.tid) (Ok addressed) addressed refl ready in
+        let sent = message_of asked addressed in (
+          addressed,
+          record {
+            row = queued_thread sent its.row;
+            there = thread_changed part thread.proc.num thread.tid (queued_thread sent) (with_queued thread.tid sent) (over_changes thread.tid (queued_thread sent) addressed.target.over addressed.target.manager) ∙ ap (option_map (queued_thread sent)) its.there;
+            queued = refl;
+          },
+        )
+
+sent_from-append : (thread : Thread) (w : World) (before : Option Sent) (steps : List Step) (e : Step) → sent_from thread w before (steps ++ e ∷ []) ≡ sent_by thread (sent_from thread w before steps) (row_at (step (world_after w steps) e).world.parts thread.proc.user.0)
+sent_from-append thread w before [] e = refl
+sent_from-append thread w before (first ∷ steps) e = sent_from-append thread (step w first).world (sent_by thread before (row_at (step w first).world.parts thread.proc.user.0)) steps e
+
+-- where the step is a call that was sent, that is its message
+call_sent : (w : World) (thread : Thread) (asked : Request) (before : Option Sent) → (step w (Call thread asked)).outcome ≡ outcome.Sent → IsMessageOf asked (sent_by thread before (row_at (step w (Call thread asked)).world.parts thread.proc.user.0))
+unfolding step client
+call_sent w thread asked before is = by (row_at w.parts thread.proc.user.0) refl is
+  where
+    by : (row : Option Part) → row_at w.parts thread.proc.user.0 ≡ row → (client_step w thread.proc.user.0 (Call thread asked) row).outcome ≡ outcome.Sent → IsMessageOf asked (sent_by thread before (row_at (client_step w thread.proc.user.0 (Call thread asked) row).world.parts thread.proc.user.0))
+    by None there is = absurd (cc)
+    by (Some part) there is =
+        let user = thread.proc.user.0 in
+        let given = or_unchanged part (call w.config user part thread asked) in
+        let its = called w.config user part thread asked is in
+        let settled = settle_part part (own_held user w.hands) given.part in
+        let queued = queued_settled part (own_held user w.hands) given.part thread.proc.num thread.tid (message_of asked its.0) its.1 in
+        let now : sent_by thread before (Some settled) ≡ Some (message_of asked its.0) = ap (sent_in before) queued.there ∙ ap (queued_or before) queued.queued in
+        subst (λ row. IsMessageOf asked (sent_by thread before row)) (sym (set_at w.parts user settled (within_table w.parts user part there))) (subst (IsMessageOf asked) (sym now) (its.0.rest, its.0.to, refl))
+
+pub calls_sent : (config : Configuration) (steps : List Step) (thread : Thread) (asked : Request) → (step (run config steps).world (Call thread asked)).outcome ≡ outcome.Sent → IsMessageOf asked (last_sent thread config (steps ++ Call thread asked ∷ []))
+calls_sent config steps thread asked is =
+    subst (IsMessageOf asked) (sym (sent_from-append thread (boot config) None steps (Call thread asked))) (call_sent (run config steps).world thread asked (last_sent thread config steps) is)

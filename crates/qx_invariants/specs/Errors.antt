@@ -1,6 +1,6 @@
 -- The errors that `docs/MACHINE.md` names: how each step may be refused, and with which errors each message may be answered. The parts below
 -- have that page's headings, in its order.
-use Rattle.std.specs.Prelude.{◌≡◌, ◌⊎◌, List, [], ◌∷◌, ◌++◌, map, Option, Some, None}
+use Rattle.std.specs.Prelude.{◌≡◌, ◌⊎◌, ℕ, List, [], ◌∷◌, ◌++◌, map, Option, Some, None}
 use Rattle.qx_base.specs.declared.errno.Errno.{Errno}
 use Rattle.qx_base.specs.declared.errno.Errno.TheVariants.{EACCES, EAGAIN, EBADF, EBUSY, EEXIST, EFBIG, EINTR, EINVAL, EISDIR, EMFILE, ENAMETOOLONG, ENFILE, ENOENT, ENOSPC, ENOSYS, ENOTDIR, ENOTEMPTY, EPERM, EPIPE, ESPIPE, EXDEV}
 use Rattle.qx_types.specs.Configuration.{Configuration}
@@ -22,6 +22,7 @@ use Rattle.qx_machine.specs.declared.rows.Sent.{Sent}
 use Rattle.qx_machine.specs.declared.rows.State.{State}
 use Rattle.qx_machine.specs.declared.rows.State.TheVariants.{Queued}
 use Rattle.qx_machine.specs.declared.rows.ThreadRow.{ThreadRow}
+use Rattle.qx_machine.specs.Calls.{bytes_of, content_of}
 use Rattle.qx_machine.specs.Machine.{World, boot, step}
 use Rattle.qx_machine.specs.Parts.{Part, thread_at}
 use Rattle.qx_isolation.specs.Rows.{row_at}
@@ -170,6 +171,11 @@ sent_from thread w before (e ∷ steps) = sent_from thread (step w e).world (sen
 
 abbrev pub last_sent : Thread → Configuration → List Step → Option Sent
 last_sent thread config steps = sent_from thread (boot config) None steps
+
+-- it is the message of that request, with what its paths have behind their mounts
+abbrev pub IsMessageOf : Request → Option Sent → Type 0
+IsMessageOf asked None = ⊥
+IsMessageOf asked (Some sent) = (rest : List (List ℕ)) × (to : List (List ℕ)) × (sent.bytes ≡ bytes_of (content_of asked rest to))
 
 -- something was sent, and may be answered so
 abbrev pub MayFail : Option Sent → Errno → Type 0

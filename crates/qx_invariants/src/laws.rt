@@ -1,6 +1,6 @@
 //! What holds of each user's resources in every world that a run reaches.
 
-ghost use Rattle.std.specs.Prelude.{◌≡◌, ℕ, ◌+◌, ◌≤◌, ◌<◌, ◌==◌, ◌||◌, Bool, false, true, List, [], ◌++◌, All, Some, count_by, if◌then◌else◌, length, max};
+ghost use Rattle.std.specs.Prelude.{◌≡◌, ℕ, ◌+◌, ◌≤◌, ◌<◌, ◌==◌, ◌||◌, Bool, false, true, List, [], ◌∷◌, ◌++◌, All, Some, count_by, if◌then◌else◌, length, max};
 ghost use Rattle.std.specs.Cmp.Lexicographic.{slice_cmp};
 ghost use Rattle.std.specs.List.Sorted.{IsStrictlySortedBy};
 ghost use Rattle.std.specs.Ordering.{nat_cmp};
@@ -9,9 +9,10 @@ ghost use Rattle.qx_types.specs.Configuration.{Configuration, limits_of, name_by
 ghost use Rattle.qx_types.specs.declared.limits.TheConstants.Limits.{PROCESSES};
 ghost use Rattle.qx_types.specs.declared.names.Manager.{Manager};
 ghost use Rattle.qx_types.specs.declared.names.Thread.{Thread};
-ghost use Rattle.qx_types.specs.declared.outcome.Outcome.TheVariants.{Failed};
+ghost use Rattle.qx_types.specs.declared.outcome.Outcome.TheVariants.{Failed, Sent};
+ghost use Rattle.qx_types.specs.declared.request.Request.{Request};
 ghost use Rattle.qx_types.specs.declared.step.Step.{Step};
-ghost use Rattle.qx_types.specs.declared.step.Step.TheVariants.{TakeReply};
+ghost use Rattle.qx_types.specs.declared.step.Step.TheVariants.{Call, TakeReply};
 ghost use Rattle.qx_machine.specs.declared.rows.Client.{Client};
 ghost use Rattle.qx_machine.specs.declared.rows.Conditions.{Conditions};
 ghost use Rattle.qx_machine.specs.Events.{Events, event_count, triggered};
@@ -29,7 +30,7 @@ ghost use Rattle.qx_machine.specs.Runs.{run};
 ghost use Rattle.qx_machine.specs.Settling.{is_held};
 ghost use Rattle.qx_machine.specs.Waiting.{is_call};
 ghost use Rattle.qx_invariants.specs.Changes.{Become};
-ghost use Rattle.qx_invariants.specs.Errors.{IsAmong, MayFail, last_sent, refusals};
+ghost use Rattle.qx_invariants.specs.Errors.{IsAmong, IsMessageOf, MayFail, last_sent, refusals};
 ghost use Rattle.qx_invariants.specs.Holds.{HasClients, HasConnections, HasContents, HasFewConnections, HasFewProcesses, HasFewServers, HasKinds, HasLimits, HasMade, HasMounts, HasNames, HasOpenWaiters, HasOwnWaiters, HasRoom, HasSettledPipes, HasTree, HasUses, HoldsInRuns, HoldsOfParts, IsOwnedBy, WaitsOnce, due_pulses, greatest_prio};
 ghost use Rattle.qx_invariants.specs.Waits.{count_waiting};
 
@@ -216,4 +217,10 @@ pub fn refusals_are_named()
 #[tactic(auto, using(crate::proofs::LastSent::errors_named))]
 pub fn errors_are_named()
     ensures { (config : Configuration) (steps : List Step) (thread : Thread) (error : Errno) → (step (run config steps).world (TakeReply thread)).outcome ≡ Failed error → MayFail (last_sent thread config steps) error }
+{}
+
+/// Once a call is sent, its message is what its thread sent last.
+#[tactic(auto, using(crate::proofs::LastSent::calls_sent))]
+pub fn calls_are_sent()
+    ensures { (config : Configuration) (steps : List Step) (thread : Thread) (asked : Request) → (step (run config steps).world (Call thread asked)).outcome ≡ Sent → IsMessageOf asked (last_sent thread config (steps ++ Call thread asked ∷ [])) }
 {}
