@@ -76,3 +76,13 @@ pub mod Linked
 pub mod Remaining
 -- priorities of threads and of what stands in lines
 pub mod Priorities
+-- what judgements come to, and how steps are refused
+pub mod Judged
+-- with which errors those are answered who wait
+pub mod Answering
+-- with which errors messages are answered
+pub mod Erring
+-- with which errors threads are answered
+pub mod Asked
+-- and in runs
+pub mod LastSent

@@ -104,7 +104,7 @@ reply_changes thread change Side effect process = refl
 -- ---- what changes none
 
 -- a server connection goes with its disconnect pulse
-unserved_same : (processes : List (Option Process)) (number : ℕ) (server : ServerName) (p t : ℕ) → thread_of t (row_at (with_row processes number (without_server server)) p) ≡ thread_of t (row_at processes p)
+pub unserved_same : (processes : List (Option Process)) (number : ℕ) (server : ServerName) (p t : ℕ) → thread_of t (row_at (with_row processes number (without_server server)) p) ≡ thread_of t (row_at processes p)
 unserved_same [] number server p t = refl
 unserved_same (None ∷ rest) zero server zero t = refl
 unserved_same (Some process ∷ rest) zero server zero t = refl
@@ -369,10 +369,10 @@ settle_once before held after h = record {
 -- ---- what a client does
 
 -- a thread is there, and ready
-record IsReadyThread (part : Part) (number thread : ℕ) : Type 0 where
-  row : ThreadRow
-  there : thread_at part number thread ≡ Some row
-  ready : is_ready row.state ≡ true
+pub record IsReadyThread (part : Part) (number thread : ℕ) : Type 0 where
+  pub row : ThreadRow
+  pub there : thread_at part number thread ≡ Some row
+  pub ready : is_ready row.state ≡ true
 
 gives_all : {A E : Type 0} (R : Type 0) (given : Result A E) → R → Gives (λ _. R) given
 gives_all R (Ok value) h = gives_done _ _ h
@@ -384,7 +384,7 @@ may_call-ready row asked =
     gives_on _ (need (request_in_ranges asked) (Refused EINVAL)) _ (λ valid is_valid.
     gives_on _ (need (nat_lt row.calls CALLS) (Refused EAGAIN)) _ (λ countable is_countable. gives_done _ _ (need-true _ _ ready is_one))))
 
-target-ready : (config : Configuration) (user : ℕ) (mounts : List MountPoint) (part : Part) (thread : Thread) (asked : Request) → Gives (λ (_ : Addressed). IsReadyThread part thread.proc.num thread.tid) (target_by config user mounts part.processes thread asked)
+pub target-ready : (config : Configuration) (user : ℕ) (mounts : List MountPoint) (part : Part) (thread : Thread) (asked : Request) → Gives (λ (_ : Addressed). IsReadyThread part thread.proc.num thread.tid) (target_by config user mounts part.processes thread asked)
 target-ready config user mounts part thread asked =
     gives_on _ (found (row_at part.processes thread.proc.num) WrongState) _ (λ process is_process.
     gives_on _ (found (row_at process.threads thread.tid) WrongState) _ (λ row is_row.

@@ -217,6 +217,20 @@ pub record IsKept (config : Configuration) (P : ℕ → Part → Type 0) : Type 
   pub serving : (user : ℕ) (held : List OwnItem) (part : Part) (own : OwnItem) (moment : ℕ) → P user part → P user (serve config user held part own moment).part
   pub settling : (user : ℕ) (before : Part) (held : List OwnItem) (after : Part) → P user after → P user (settle_part before held after)
 
+module _ (config : Configuration) (P : ℕ → Part → Type 0) (starts : (user : ℕ) → P user (boot_part config user)) where
+  boot-parts-hold : (first : ℕ) (names : List (List ℕ)) (place : ℕ) (part : Part) → row_at (boot_parts config first names) place ≡ Some part → P (first + place) part
+  boot-parts-hold first [] place part there = absurd (cc)
+  boot-parts-hold first (name ∷ names) zero part there =
+      subst (λ user. P user part) (omega arith) (subst (P first) (same_Some _ _ there) (starts first))
+  boot-parts-hold first (name ∷ names) (suc place) part there =
+      subst (λ user. P user part) (omega arith) (boot-parts-hold (first + 1) names place part there)
+
+  -- each user's part has it at boot
+  pub boot-each : (user : ℕ) (part : Part) → row_at (boot config).parts user ≡ Some part → P user part
+  unfolding system.boot
+  boot-each zero part there = absurd (cc)
+  boot-each (suc place) part there = subst (λ user. P user part) (omega arith) (boot-parts-hold 1 config.users place part there)
+
 module _ (config : Configuration) (P : ℕ → Part → Type 0) (keeps : IsKept config P) where
   -- each user's part has it
   pub record HoldsIn (w : World) : Type 0 where
@@ -282,24 +296,12 @@ module _ (config : Configuration) (P : ℕ → Part → Type 0) (keeps : IsKept 
   -- ---- from boot
 
   module _ (starts : (user : ℕ) → P user (boot_part config user)) where
-    boot-parts-hold : (first : ℕ) (names : List (List ℕ)) (place : ℕ) (part : Part) → row_at (boot_parts config first names) place ≡ Some part → P (first + place) part
-    boot-parts-hold first [] place part there = absurd (cc)
-    boot-parts-hold first (name ∷ names) zero part there =
-        subst (λ user. P user part) (omega arith) (subst (P first) (same_Some _ _ there) (starts first))
-    boot-parts-hold first (name ∷ names) (suc place) part there =
-        subst (λ user. P user part) (omega arith) (boot-parts-hold (first + 1) names place part there)
-
-    boot-each : (user : ℕ) (part : Part) → row_at (boot config).parts user ≡ Some part → P user part
-    unfolding system.boot
-    boot-each zero part there = absurd (cc)
-    boot-each (suc place) part there = subst (λ user. P user part) (omega arith) (boot-parts-hold 1 config.users place part there)
-
     boot-config : (boot config).config ≡ config
     unfolding system.boot
     boot-config = refl
 
     pub boot-holds : HoldsIn (boot config)
-    boot-holds = record { configured = boot-config; each = boot-each }
+    boot-holds = record { configured = boot-config; each = boot-each config P starts }
 
     -- in each world that a run reaches
     pub run-holds : (steps : List Step) (user : ℕ) (part : Part) → row_at (run config steps).world.parts user ≡ Some part → P user part

@@ -1,3 +1,4 @@
 pub mod Changes
+pub mod Errors
 pub mod Holds
 pub mod Waits

@@ -1,19 +1,25 @@
 //! What holds of each user's resources in every world that a run reaches.
 
-ghost use Rattle.std.specs.Prelude.{◌≡◌, ℕ, ◌+◌, ◌≤◌, ◌<◌, ◌==◌, ◌||◌, Bool, false, true, List, [], ◌++◌, All, Some, count_by, if◌then◌else◌, length, max};
+ghost use Rattle.std.specs.Prelude.{◌≡◌, ℕ, ◌+◌, ◌≤◌, ◌<◌, ◌==◌, ◌||◌, Bool, false, true, List, [], ◌∷◌, ◌++◌, All, Some, count_by, if◌then◌else◌, length, max};
 ghost use Rattle.std.specs.Cmp.Lexicographic.{slice_cmp};
 ghost use Rattle.std.specs.List.Sorted.{IsStrictlySortedBy};
 ghost use Rattle.std.specs.Ordering.{nat_cmp};
+ghost use Rattle.qx_base.specs.declared.errno.Errno.{Errno};
 ghost use Rattle.qx_types.specs.Configuration.{Configuration, limits_of, name_bytes};
 ghost use Rattle.qx_types.specs.declared.limits.TheConstants.Limits.{PROCESSES};
 ghost use Rattle.qx_types.specs.declared.names.Manager.{Manager};
+ghost use Rattle.qx_types.specs.declared.names.Thread.{Thread};
+ghost use Rattle.qx_types.specs.declared.outcome.Outcome.TheVariants.{Failed, Sent};
+ghost use Rattle.qx_types.specs.declared.request.Request.{Request};
 ghost use Rattle.qx_types.specs.declared.step.Step.{Step};
+ghost use Rattle.qx_types.specs.declared.step.Step.TheVariants.{Call, TakeReply};
 ghost use Rattle.qx_machine.specs.declared.rows.Client.{Client};
 ghost use Rattle.qx_machine.specs.declared.rows.Conditions.{Conditions};
 ghost use Rattle.qx_machine.specs.Events.{Events, event_count, triggered};
 ghost use Rattle.qx_machine.specs.Inodes.{blocks_of_client, is_clients};
 ghost use Rattle.qx_machine.specs.Listings.{listed_by, listed_next};
-ghost use Rattle.qx_machine.specs.Machine.{line_of, own_held};
+ghost use Rattle.qx_machine.specs.Laws.{is_refusal};
+ghost use Rattle.qx_machine.specs.Machine.{World, line_of, own_held, step};
 ghost use Rattle.qx_machine.specs.Names.{listed, listing, names_in};
 ghost use Rattle.qx_machine.specs.Mounting.{new_resources};
 ghost use Rattle.qx_machine.specs.Parts.{Part};
@@ -24,6 +30,7 @@ ghost use Rattle.qx_machine.specs.Runs.{run};
 ghost use Rattle.qx_machine.specs.Settling.{is_held};
 ghost use Rattle.qx_machine.specs.Waiting.{is_call};
 ghost use Rattle.qx_invariants.specs.Changes.{Become};
+ghost use Rattle.qx_invariants.specs.Errors.{IsAmong, IsMessageOf, MayFail, last_sent, refusals};
 ghost use Rattle.qx_invariants.specs.Holds.{HasClients, HasConnections, HasContents, HasFewConnections, HasFewProcesses, HasFewServers, HasKinds, HasLimits, HasMade, HasMounts, HasNames, HasOpenWaiters, HasOwnWaiters, HasRoom, HasSettledPipes, HasTree, HasUses, HoldsInRuns, HoldsOfParts, IsOwnedBy, WaitsOnce, due_pulses, greatest_prio};
 ghost use Rattle.qx_invariants.specs.Waits.{count_waiting};
 
@@ -197,4 +204,23 @@ pub fn ended_processes_are_freed()
 pub fn threads_wait_once()
     ensures threads { HoldsOfParts WaitsOnce }
     ensures calls { HoldsInRuns (λ r. (process thread number : ℕ) → count_waiting (is_call process thread number) r.pipes ≤ 1) }
+{}
+
+/// A step that is refused, in any world, is refused as its list says.
+#[tactic(auto, using(crate::proofs::Judged::refusals_named))]
+pub fn refusals_are_named()
+    ensures { (w : World) (e : Step) → is_refusal (step w e).outcome ≡ true → IsAmong (step w e).outcome (refusals e) }
+{}
+
+/// An error that a thread takes as its answer is one with which that what it sent last may be answered, at once or after it
+/// waited.
+#[tactic(auto, using(crate::proofs::LastSent::errors_named))]
+pub fn errors_are_named()
+    ensures { (config : Configuration) (steps : List Step) (thread : Thread) (error : Errno) → (step (run config steps).world (TakeReply thread)).outcome ≡ Failed error → MayFail (last_sent thread config steps) error }
+{}
+
+/// Once a call is sent, its message is what its thread sent last.
+#[tactic(auto, using(crate::proofs::LastSent::calls_sent))]
+pub fn calls_are_sent()
+    ensures { (config : Configuration) (steps : List Step) (thread : Thread) (asked : Request) → (step (run config steps).world (Call thread asked)).outcome ≡ Sent → IsMessageOf asked (last_sent thread config (steps ++ Call thread asked ∷ [])) }
 {}
