@@ -16,7 +16,7 @@ use qx_types::{Config, NoMemory};
 use std::alloc::Global;
 
 /// Why a line was not answered to its end.
-#[derive(Clone, Copy, Debug, PartialEq, Eq)]
+#[derive(Clone, Copy)]
 pub enum Unanswered {
     /// Memory was short for the line, as the fault tells.
     Line(LineFault),

@@ -15,7 +15,7 @@ use qx_words::words::moment;
 use std::alloc::Global;
 
 /// What is wrong with a line.
-#[derive(Clone, Copy, Debug, PartialEq, Eq)]
+#[derive(Clone, Copy)]
 pub enum BadLine {
     /// No line of a script.
     Unread,
@@ -42,7 +42,7 @@ impl BadLine {
 }
 
 /// What a line asks for.
-#[derive(Debug, Drop)]
+#[derive(Drop)]
 pub enum Said {
     /// It sets something, or says nothing.
     Setting,
@@ -54,7 +54,7 @@ pub enum Said {
 }
 
 /// A line, and its moment: that before the first space, or else its number.
-#[derive(Clone, Copy, Debug)]
+#[derive(Clone, Copy)]
 pub struct Timed<'a> {
     pub moment: u64,
     pub line: &'a [u8],

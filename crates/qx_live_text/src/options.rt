@@ -6,7 +6,7 @@ use std::alloc::{AllocError, Global};
 use std::convert::AsStr;
 
 /// What the words of the command line ask for.
-#[derive(Clone, Copy, Debug, PartialEq, Eq)]
+#[derive(Clone, Copy)]
 pub struct Options<'a> {
     /// Whether lines are kept, so that `trace` can take them anew.
     pub keeps: bool,
@@ -15,7 +15,7 @@ pub struct Options<'a> {
 }
 
 /// Why the words give no options.
-#[derive(Clone, Copy, Debug, PartialEq, Eq)]
+#[derive(Clone, Copy)]
 pub enum OptionsFault {
     /// The words are refused.
     Words,

@@ -13,7 +13,7 @@ use std::io;
 use std::io::{BufRead, ErrorKind, Write};
 
 /// How a session ended.
-#[derive(Clone, Copy, Debug, PartialEq, Eq)]
+#[derive(Clone, Copy, Debug)]
 pub enum End {
     /// Each line was answered.
     Done,
@@ -51,7 +51,7 @@ impl End {
 }
 
 /// Why no more lines are read.
-#[derive(Clone, Copy, Debug, PartialEq, Eq)]
+#[derive(Clone, Copy)]
 enum Stop {
     Input,
     Output,
