@@ -1,4 +1,5 @@
 pub mod PlayedSteps
+pub mod Replayed
 pub mod Rounds
 pub mod Serving
 pub mod Shown

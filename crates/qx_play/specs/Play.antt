@@ -6,11 +6,13 @@ use Rattle.qx_types.specs.declared.outcome.Outcome.{Outcome}
 use Rattle.qx_types.specs.declared.outcome.Outcome.TheVariants.{Spawned, Refused, Done, Sent, Reply, Failed, Pulse, NoPulse, WrongState, Took, Idle, Busy, Handled, Nothing}
 use Rattle.qx_types.specs.declared.step.Step.{Step}
 use Rattle.qx_types.specs.declared.step.Step.TheVariants.{Call, TakeReply, Perform}
-use Rattle.qx_machine.specs.Machine.{World, step}
+use Rattle.qx_machine.specs.Machine.{World, boot, step}
 use Rattle.qx_isolation.specs.Rows.{row_at}
 use Rattle.qx_machine.specs.Runs.{erase, run, received}
 use Rattle.qx_machine.specs.Reads.{is_thread_answered, row_among_parts}
 use Rattle.qx_live.specs.Chosen.{first_worker, served_steps}
+use Rattle.qx_live.specs.Live.{live_steps}
+use Rattle.qx_live.specs.declared.line.LiveLine.{LiveLine}
 use Rattle.qx_script.specs.declared.command.Command.{Command}
 use Rattle.qx_script.specs.declared.command.Command.TheVariants.{Take, Serve, Do, Show, Erased, Trace}
 use Rattle.qx_play.specs.Printed.{trace_text, transcript_text}
@@ -94,3 +96,7 @@ played config commands = played_lines config (record { steps = []; text = [] }) 
 -- what a script prints
 unfoldable pub shown : Configuration → List Command → List ℕ
 shown config commands = (played config commands).text
+
+-- what `trace` prints behind the lines of a session
+abbrev pub session_trace : Configuration → List LiveLine → List ℕ
+session_trace config lines = trace_text config (run config (live_steps (boot config) lines)).entries

@@ -79,7 +79,7 @@ fn push_erased(text: &mut Vec<u8>, traced: &Traced, user: User) -> Result<(), No
 }
 
 /// Takes a step.
-fn store(traced: &mut Traced, step: Step) -> Result<(), NoMemory>
+pub(crate) fn store(traced: &mut Traced, step: Step) -> Result<(), NoMemory>
     ensures config { traced.new.config ≡ traced.old.config }
     ensures steps { OnOk result (traced.new.steps ≡ traced.old.steps ++ step ∷ []) }
 {
@@ -147,7 +147,7 @@ fn empty_hand(traced: &mut Traced, moment: u64) -> Result<(), NoMemory>
 
 /// The first worker takes and does all that waits, and what that puts into lines.
 #[tactic(auto, unfolding(crate::specs::Play::all_served, qx_live::specs::Chosen::served_steps))]
-fn serve_waiting(traced: &mut Traced, moment: u64) -> Result<(), NoMemory>
+pub(crate) fn serve_waiting(traced: &mut Traced, moment: u64) -> Result<(), NoMemory>
     ensures config { traced.new.config ≡ traced.old.config }
     ensures steps { OnOk result (traced.new.steps ≡ all_served traced.old.config moment traced.old.steps) }
 {

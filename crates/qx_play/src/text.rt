@@ -72,7 +72,7 @@ fn push_seen_by(
 
 /// One line: who, and what came of it.
 #[tactic(auto, unfolding(crate::specs::Printed::seen_text))]
-fn push_seen(
+pub fn push_seen(
     text: &mut Vec<u8>,
     config: &Config,
     actor: Actor,

@@ -1,0 +1,2 @@
+pub mod Front
+pub mod Fronts
