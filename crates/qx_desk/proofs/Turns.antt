@@ -1,5 +1,5 @@
 -- What a desk in code comes to at an input.
-use Rattle.std.proofs.Common.{◌≡◌, ℕ, zero, suc, ◌<◌, List, [], ◌∷◌, length, get_or, refl, sym, ap, ◌∙◌, arith}
+use Rattle.std.proofs.Common.{◌≡◌, ℕ, zero, suc, ◌<◌, List, [], ◌∷◌, length, get_or, refl, sym, ap, subst, ◌∙◌, arith}
 use Rattle.std.specs.Prelude.{Option, Some, None, map, slice_set}
 use Rattle.std.proofs.lemmas.List.{map-set}
 use Rattle.qx_types.specs.declared.step.Step.{Step}
@@ -9,6 +9,7 @@ use Rattle.qx_desk.specs.Desks.{Comes, Leads, RanShort, after_each, arrived, row
 use Rattle.qx_desk.specs.Fronts.{Arrived, Came, Desk, Front, Left, Turn, program_for, turn, turn_of}
 use Rattle.qx_desk.specs.Programs.{Ran, each_taken, line_for, ran}
 use Rattle.qx_desk.specs.declared.taking.By.{By}
+use Rattle.qx_desk.proofs.Comings.{leads_nowhere}
 
 row_there : {A : Type 0} (own : List A) (i : ℕ) (one : A) → i < length own → one ≡ get_or own i one → row_at (map Some own) i ≡ Some one
 row_there [] i one more is = absurd (omega arith)
@@ -47,3 +48,21 @@ module _ {State Input Output : Type 0} where
         turned front w after own by i input (Some left) state next [] is more there
             (all_ran by w leads.steps came ∙ ap (λ v. record { world = v; value = came }) leads.after_them),
       )
+
+  -- ---- what a front did, at what the desk had made up before
+
+  pub turned_at : (front : Front State Input Output) (w after : World) (own : List State) (by : By) (i : ℕ) (input : Input) (state next : State) (outputs : List Output) (at : By) (from : World)
+      → by.user.0 ≡ suc i → i < length own → state ≡ get_or own i state → at ≡ by → from ≡ w
+      → Comes at from (front.on at.user.0 state input) after (record { state = next; outputs = outputs })
+      → turn front (record { world = w; states = rows_of own }) (arrived by input None) ≡ record { desk = record { world = after; states = rows_of (slice_set own i next) }; outputs = outputs }
+  turned_at front w after own by i input state next outputs at from is more there same_by same_world comes =
+      let came : Came State Output = record { state = next; outputs = outputs } in
+      let here : Comes at w (front.on at.user.0 state input) after came = subst (λ v. Comes at v (front.on at.user.0 state input) after came) same_world comes in
+      turned front w after own by i input None state next outputs is more there (subst (λ b. Comes b w (front.on b.user.0 state input) after came) same_by here)
+
+  pub short_at : (front : Front State Input Output) (w after : World) (own : List State) (by : By) (i : ℕ) (input : Input) (state next : State) (at : By) (from : World)
+      → by.user.0 ≡ suc i → i < length own → state ≡ get_or own i state → at ≡ by → from ≡ w → ((start : World) → Leads at start from → Leads at start after)
+      → RanShort front (record { world = w; states = rows_of own }) by input (record { world = after; states = rows_of (slice_set own i next) })
+  short_at front w after own by i input state next at from is more there same_by same_world leads =
+      let here : Leads at w after = leads w (subst (Leads at w) (sym same_world) (leads_nowhere at w)) in
+      turned_short front w after own by i input state next is more there (subst (λ b. Leads b w after) same_by here)

@@ -99,7 +99,9 @@ impl<F: Front> Desk<F> {
         let Some(own) = self.own.get_mut(place) else {
             return Ok(Vec::new(alloc));
         };
-        own.on(alloc, &mut self.taking, input)
-            .map_err(|_lack| InputFault::Short)
+        let Ok(outputs) = own.on(alloc, &mut self.taking, input) else {
+            return Err(InputFault::Short);
+        };
+        Ok(outputs)
     }
 }
