@@ -27,6 +27,7 @@ use Rattle.qx_chan.specs.Users as users
 use Rattle.qx_chan.specs.Users.{no_processes}
 use Rattle.qx_steps.specs.inner.Parts.{part_of, parts_of, told_all, world_of, AreResourcesOf, SameUsers}
 use Rattle.qx_machine.specs.Reads.{process_among_parts, row_among_parts}
+use Rattle.qx_steps.specs.Places.{process_places}
 
 pub no_resources : (processes : Option (List (Option Process))) → part_of processes None ≡ None
 no_resources None = refl
@@ -55,6 +56,17 @@ pub process_of-parts : (us : List (Option (List (Option Process)))) (rs : List (
 process_of-parts us rs proc same = elim (option_cases (row_at us proc.user.0)) [
   | inl none ↦ rw (part-none us rs proc.user.0 none, none) refl
   | inr ps ↦ rw ((part-there us rs proc.user.0 ps.0 same ps.1).1.1, ps.1) refl
+]
+
+-- how many places a user's processes have
+abbrev pub places_in : Option (List (Option Process)) → ℕ
+places_in None = 0
+places_in (Some ps) = length ps
+
+pub places-parts : (us : List (Option (List (Option Process)))) (rs : List (Option Resources)) (user : ℕ) → SameUsers us rs → process_places (row_at (parts_of us rs) user) ≡ places_in (row_at us user)
+places-parts us rs user same = elim (option_cases (row_at us user)) [
+  | inl none ↦ rw (part-none us rs user none, none) refl
+  | inr ps ↦ rw ((part-there us rs user ps.0 same ps.1).1.1, ps.1) refl
 ]
 
 pub thread_row-parts : (us : List (Option (List (Option Process)))) (rs : List (Option Resources)) (thread : Thread) → SameUsers us rs → row_among_parts (parts_of us rs) thread ≡ users.thread_row us thread
@@ -142,6 +154,9 @@ module _ (c : Channel) (ks : List (Option Kept)) where
 
   pub process-told : (proc : Proc) → AreResourcesOf c ks → process_among_parts (parts_of c.users (told_all c ks)) proc ≡ users.process_of c.users proc
   process-told proc of = process_of-parts c.users (told_all c ks) proc (same-told of)
+
+  pub places-told : (user : ℕ) → AreResourcesOf c ks → process_places (row_at (parts_of c.users (told_all c ks)) user) ≡ places_in (row_at c.users user)
+  places-told user of = places-parts c.users (told_all c ks) user (same-told of)
 
   pub thread_row-told : (thread : Thread) → AreResourcesOf c ks → row_among_parts (parts_of c.users (told_all c ks)) thread ≡ users.thread_row c.users thread
   thread_row-told thread of = thread_row-parts c.users (told_all c ks) thread (same-told of)

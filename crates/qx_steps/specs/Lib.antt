@@ -1,4 +1,5 @@
 pub mod Held
+pub mod Places
 pub mod Reached
 pub mod Steps
 pub mod inner

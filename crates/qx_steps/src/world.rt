@@ -11,6 +11,7 @@ ghost use Rattle.qx_machine.specs.Wants.{wants_memory};
 ghost use Rattle.qx_process.specs.Reads.{is_thread_blocked};
 ghost use Rattle.qx_chan.specs.Channel.{is_no_pulse};
 ghost use Rattle.qx_chan.specs.Sending.{HasMemory};
+ghost use Rattle.qx_steps.specs.Places.{process_places, thread_places};
 ghost use Rattle.qx_steps.specs.Held.{bytes_of_work, held_work, received_bytes, work_now, IsReadFor, IsStale};
 ghost use Rattle.qx_machine.specs.Reads.{answer_of, has_item, is_thread_answered, next_manager, process_among_parts, row_among_parts};
 ghost use Rattle.qx_steps.specs.Reached.{IsReached};
@@ -509,6 +510,28 @@ impl World {
         match self.channel.thread(thread) {
             Some(cell) => cell.is_blocked(),
             None => false,
+        }
+    }
+
+    /// How many numbers of a user's processes have a place, the 0 among them, which no process has: the number of each process
+    /// is below. 0 where the user is not there.
+    pub fn process_places(&self, user: User) -> u8
+        ensures { result ≡ process_places (row_at self.now.parts user.0) }
+    {
+        match self.channel.processes(user) {
+            Some(processes) => processes.places(),
+            None => 0,
+        }
+    }
+
+    /// How many numbers of a process' threads have a place, the 0 among them, which no thread has: the number of each thread is
+    /// below. 0 where the process is not there, or has ended.
+    pub fn thread_places(&self, proc: Proc) -> u8
+        ensures { result ≡ thread_places (process_among_parts self.now.parts proc) }
+    {
+        match self.channel.process(proc) {
+            Some(process) => process.places(),
+            None => 0,
         }
     }
 
