@@ -13,8 +13,9 @@ count() { valgrind --tool=callgrind --callgrind-out-file=/dev/null out/bench_tim
 round() { echo "$(($(count "${@:2}" $(($1 * 3))) - $(count "${@:2}" "$1"))) $(($1 * 2))" | awk '{ printf "%.0f\n", $1 / $2 }'; }
 calls() { echo "${*:2}: $(round "$@")"; }
 script() { bash scripts.sh "${@:2}" >"$file"; echo "${*:2}: $(round "$1" script "$file")"; }
+session() { bash scripts.sh "${@:2}" >"$file"; echo "session ${*:2}: $(round "$1" session "$file")"; }
 
-script 10000 nothing; script 1000 fstat; script 1000 do_fstat; script 1000 dup; script 1000 again
+script 10000 nothing; script 1000 fstat; script 1000 do_fstat; session 1000 do_fstat; script 1000 dup; script 1000 again
 for at in '1 10' '1 64' '4 256' '16 1000'; do script 20 line $at; done
 for count in 1 8 64; do script 100 open $count; done
 for count in 1 64; do for kind in opened closed; do script 100 $kind $count; done; done

@@ -1,9 +1,10 @@
 //! Does one thing so many times, for a count of instructions from outside. With no words it does a little of each.
 //!
-//! The words are `script`, a file and the rounds; or `line`, `encode` or `read`, a count and the rounds.
+//! The words are `script` or `session`, a file and the rounds; or `line`, `encode` or `read`, a count and the rounds.
 //!
 //! - `script.rt`: the lines before the first `show` are played once, and those from it on so many times; where none are
 //!   before it, each round begins with a new world
+//! - `session.rt`: the same lines as those of a session
 //! - `calls.rt`: the calls that no script reaches alone: those of a line, and messages that are spelled and read
 //!
 //! With no words the scripts of `data/` are played and some of the calls made, which is what the gate runs.
@@ -12,8 +13,10 @@
 
 mod calls;
 mod script;
+mod session;
 
 use anyhow::bail;
+use qx_types::NoMemory;
 use std::{env, fs};
 
 /// The scripts that are played with no words.
@@ -30,6 +33,10 @@ fn main(rt: HostRuntime) -> anyhow::Result<()> {
     match words.as_slice() {
         [_, kind, file, rounds] if kind.as_str() == "script" => {
             let answers = played(&rt, file.as_str(), rounds.parse()?)?;
+            println!(rt; "{answers}")?;
+        }
+        [_, kind, file, rounds] if kind.as_str() == "session" => {
+            let answers = played_live(&rt, file.as_str(), rounds.parse()?)?;
             println!(rt; "{answers}")?;
         }
         [_, calls, count, rounds] => {
@@ -53,13 +60,25 @@ fn try_each(rt: &HostRuntime) -> anyhow::Result<()> {
         let answers = played(rt, file.as_str(), 10)?;
         println!(rt; "{name} {answers}")?;
     }
+    let answers = played_live(rt, "do_fstat.script", 10)?;
+    println!(rt; "session {answers}")?;
     Ok(())
 }
 
 /// Plays the rounds of the script in a file.
 fn played(rt: &HostRuntime, file: &str, rounds: u32) -> anyhow::Result<u64> {
     let text = fs::read(rt, file)?;
-    match script::play_script(rt.alloc(), text.as_slice(), rounds) {
+    answers_of(script::play_script(rt.alloc(), text.as_slice(), rounds))
+}
+
+/// Plays the rounds of the script in a file as a session's lines.
+fn played_live(rt: &HostRuntime, file: &str, rounds: u32) -> anyhow::Result<u64> {
+    let text = fs::read(rt, file)?;
+    answers_of(session::play_session(rt.alloc(), text.as_slice(), rounds))
+}
+
+fn answers_of(played: Result<Option<u64>, NoMemory>) -> anyhow::Result<u64> {
+    match played {
         Ok(Some(answers)) => Ok(answers),
         Ok(None) => bail!("a line is bad"),
         Err(_) => bail!("out of memory"),

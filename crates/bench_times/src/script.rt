@@ -65,7 +65,7 @@ fn play_line(world: &mut World, line: &Command) -> Result<u64, NoMemory> {
 }
 
 /// How many replies or new processes that is, none or one.
-fn answers(outcome: &Outcome) -> u64 {
+pub fn answers(outcome: &Outcome) -> u64 {
     match outcome {
         Outcome::Reply(..) | Outcome::Spawned(_) => 1,
         _ => 0,

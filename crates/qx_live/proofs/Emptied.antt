@@ -1,6 +1,6 @@
 -- Serving leaves no item waiting: each round makes what waits weigh less.
 use Rattle.std.proofs.Common.{◌≡◌, ◌⊎◌, inl, inr, ℕ, zero, suc, ◌+◌, ◌≤◌, ◌<◌, true, false, List, [], ◌∷◌, length, refl, sym, ap, subst, ◌∙◌, arith, cond, lt-ltb}
-use Rattle.std.specs.Prelude.{Option, Some, None, find, map, nat_lt, slice_get, sum_by}
+use Rattle.std.specs.Prelude.{Some, None, find, map, nat_lt, slice_get, sum_by}
 use Rattle.std.proofs.lemmas.Grind.{common_steps}
 use Rattle.std.proofs.lemmas.List.Sums.{sum_by-cons}
 use Rattle.qx_types.specs.Managers.{manager_count, manager_number, managers}

@@ -20,3 +20,5 @@ pub mod Told
 pub mod Sequences
 -- what is so of every world to which steps lead
 pub mod Reached
+-- a thread or a process that is not there
+pub mod Absent

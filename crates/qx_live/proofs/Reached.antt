@@ -1,5 +1,5 @@
 -- What is so of every world to which steps lead: its lines are as many as managers, and no pulse is taken where none is given.
-use Rattle.std.proofs.Common.{◌≡◌, Bool, true, false, length, refl, sym, subst}
+use Rattle.std.proofs.Common.{◌≡◌, true, false, length, refl, sym, subst}
 use Rattle.std.proofs.lemmas.Bool.{false≢true}
 use Rattle.qx_types.specs.Managers.{manager_count}
 use Rattle.qx_types.specs.declared.names.Proc.{Proc}

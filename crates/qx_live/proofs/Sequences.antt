@@ -14,8 +14,8 @@ use Rattle.qx_machine.specs.Machine.{World}
 use Rattle.qx_machine.specs.Reads.{next_manager}
 use Rattle.qx_machine.specs.Runs.{world_after}
 use Rattle.qx_live.specs.Chosen.{each, first_worker, followed, items_waiting, rounds, round_steps, served_steps}
-use Rattle.qx_live.specs.Live.{Session, after_line, after_step, after_steps, has_pulse, line_steps, process_steps, pulse_count, pulse_steps, pulses, reply_steps, steps_by, told_steps}
-use Rattle.qx_live.specs.Sessions.{told_from}
+use Rattle.qx_live.specs.Live.{Session, after_line, after_step, after_steps, has_pulse, line_steps, pulse_count, pulse_steps, pulses, reply_steps, steps_by, told_steps}
+use Rattle.qx_live.specs.Sessions.{processes_behind, served, serving_steps, threads_from, told_from}
 use Rattle.qx_live.specs.declared.line.LiveLine.{LiveLine}
 use Rattle.qx_live.proofs.Emptied.{stays, turn}
 use Rattle.qx_live.proofs.Sessions.{after_all, after_both}
@@ -29,51 +29,43 @@ goes_on session steps next =
 
 -- ---- a line, and serving
 
--- so many rounds, and then all that the user is told
-abbrev pub serving : ℕ → ℕ → ℕ → World → List Step
-serving user moment left w = followed w (rounds left moment w) (told_steps user)
-
--- a session that goes on so
-abbrev pub Served : ℕ → ℕ → ℕ → Session → Session
-Served user moment left session = after_steps session (serving user moment left session.world)
-
 pub line_begun : (session after : Session) (line : LiveLine) (actor : Actor) (user left : ℕ) → actor_of line.step ≡ Some actor → user ≡ user_of actor
-    → after ≡ after_step session line.step → left ≡ 2 * items_waiting after.world → Served user line.moment left after ≡ after_line session line
+    → after ≡ after_step session line.step → left ≡ 2 * items_waiting after.world → served user line.moment left after ≡ after_line session line
 unfolding line_steps served_steps
 line_begun session after line actor user left by same is count =
     let w = session.world in
     let asked = after_step session line.step in
     let steps : World → List Step = λ v. followed v (line.step ∷ []) (served_steps line.moment) in
-    let all : after_steps session (steps_by w line (Some actor)) ≡ Served (user_of actor) line.moment (2 * items_waiting asked.world) asked =
+    let all : after_steps session (steps_by w line (Some actor)) ≡ served (user_of actor) line.moment (2 * items_waiting asked.world) asked =
     goes_on session (steps w) (told_steps (user_of actor))
     ∙ (ap (λ s. after_steps s (told_steps (user_of actor) s.world)) (goes_on session (line.step ∷ []) (served_steps line.moment))
     ∙ sym (goes_on asked (served_steps line.moment asked.world) (told_steps (user_of actor)))) in
-    ap (λ u. Served u line.moment left after) same
-    ∙ (ap (λ n. Served (user_of actor) line.moment n after) count
-    ∙ (ap (λ s. Served (user_of actor) line.moment (2 * items_waiting s.world) s) is
+    ap (λ u. served u line.moment left after) same
+    ∙ (ap (λ n. served (user_of actor) line.moment n after) count
+    ∙ (ap (λ s. served (user_of actor) line.moment (2 * items_waiting s.world) s) is
     ∙ (sym all ∙ ap (λ who. after_steps session (steps_by w line who)) (sym by))))
 
 pub received : (session after : Session) (user moment left left_now : ℕ) (manager : Manager) → next_manager session.world ≡ Some manager → left ≡ left_now + 1
     → after ≡ after_step session (Receive first_worker manager)
-    → after_steps after (followed after.world (Perform first_worker moment ∷ []) (serving user moment left_now)) ≡ Served user moment left session
+    → after_steps after (followed after.world (Perform first_worker moment ∷ []) (serving_steps user moment left_now)) ≡ served user moment left session
 received session after user moment left left_now manager next one is =
     let w = session.world in
     let round = round_steps moment manager in
     let more : left ≡ suc left_now = omega (arith, one) in
     let taken = after_step session (Receive first_worker manager) in
     let done = after_step taken (Perform first_worker moment) in
-    let here : after_steps taken (followed taken.world (Perform first_worker moment ∷ []) (serving user moment left_now)) ≡ Served user moment left_now done =
-    goes_on taken (Perform first_worker moment ∷ []) (serving user moment left_now) in
-    let there : Served user moment (suc left_now) session ≡ Served user moment left_now done =
+    let here : after_steps taken (followed taken.world (Perform first_worker moment ∷ []) (serving_steps user moment left_now)) ≡ served user moment left_now done =
+    goes_on taken (Perform first_worker moment ∷ []) (serving_steps user moment left_now) in
+    let there : served user moment (suc left_now) session ≡ served user moment left_now done =
     goes_on session (rounds (suc left_now) moment w) (told_steps user)
     ∙ (ap (λ s. after_steps s (told_steps user s.world)) (ap (after_steps session) (turn left_now moment w manager next) ∙ goes_on session round (rounds left_now moment))
     ∙ sym (goes_on done (rounds left_now moment done.world) (told_steps user))) in
-    ap (λ s. after_steps s (followed s.world (Perform first_worker moment ∷ []) (serving user moment left_now))) is
-    ∙ (here ∙ (sym there ∙ ap (λ n. Served user moment n session) (sym more)))
+    ap (λ s. after_steps s (followed s.world (Perform first_worker moment ∷ []) (serving_steps user moment left_now))) is
+    ∙ (here ∙ (sym there ∙ ap (λ n. served user moment n session) (sym more)))
 
 pub performed : (session after : Session) (user moment left : ℕ) → after ≡ after_step session (Perform first_worker moment)
-    → Served user moment left after ≡ after_steps session (followed session.world (Perform first_worker moment ∷ []) (serving user moment left))
-performed session after user moment left is = ap (Served user moment left) is ∙ sym (goes_on session (Perform first_worker moment ∷ []) (serving user moment left))
+    → served user moment left after ≡ after_steps session (followed session.world (Perform first_worker moment ∷ []) (serving_steps user moment left))
+performed session after user moment left is = ap (served user moment left) is ∙ sym (goes_on session (Perform first_worker moment ∷ []) (serving_steps user moment left))
 
 -- ---- telling
 
@@ -91,23 +83,17 @@ from_first : (user : ℕ) (w : World) → told_from user 1 1 w ≡ told_steps us
 unfolding told_from told_steps
 from_first user w = next_of user THREADS (THREADS + 1 - 1) 1 PROCESSES (PROCESSES - 1) w (omega arith) (omega arith)
 
-pub rounds_over : (session : Session) (user moment : ℕ) → after_steps session (told_from user 1 1 session.world) ≡ Served user moment 0 session
+pub rounds_over : (session : Session) (user moment : ℕ) → after_steps session (told_from user 1 1 session.world) ≡ served user moment 0 session
 rounds_over session user moment = ap (after_steps session) (from_first user session.world)
 
-pub none_left : (session : Session) (user moment left : ℕ) → next_manager session.world ≡ None → after_steps session (told_from user 1 1 session.world) ≡ Served user moment left session
+pub none_left : (session : Session) (user moment left : ℕ) → next_manager session.world ≡ None → after_steps session (told_from user 1 1 session.world) ≡ served user moment left session
 none_left session user moment left none = ap (after_steps session) (from_first user session.world ∙ sym (ap (λ steps. followed session.world steps (told_steps user)) (no_rounds left)))
   where
     no_rounds : (left : ℕ) → rounds left moment session.world ≡ []
     no_rounds zero = refl
     no_rounds (suc left) = stays left moment session.world none
 
--- the threads of a process from one on, and its pulses and the other processes behind them
-abbrev threads_from : ℕ → ℕ → ℕ → World → List Step
-threads_from user process thread = each (reply_steps user process) (range_with_len thread (THREADS + 1 - thread))
-
-abbrev processes_behind : ℕ → ℕ → World → List Step
-processes_behind user process = each (process_steps user) (range_with_len (process + 1) (PROCESSES - process))
-
+-- the pulses of a process, and the other processes behind it
 abbrev behind_threads : ℕ → ℕ → Session → Session
 behind_threads user process session =
     let after = after_steps session (pulse_steps user process session.world) in
@@ -134,42 +120,28 @@ thread_done user process thread session after few is =
     ∙ (ap (behind_threads user process) (sym (ap (λ n. after_steps session (each choose (range_with_len thread n) session.world)) one ∙ all))
     ∙ sym (told_is user process thread session))
 
-no_threads : (user process thread : ℕ) (session : Session) → THREADS < thread → after_steps session (threads_from user process thread session.world) ≡ session
-no_threads user process thread session past =
-    let none : THREADS + 1 - thread ≡ zero = omega arith in
-    ap (λ n. after_steps session (each (reply_steps user process) (range_with_len thread n) session.world)) none
-
-from_next : (user process : ℕ) (w : World) → process < PROCESSES → told_from user (process + 1) 1 w ≡ processes_behind user process w
+-- the next process, and those behind it
+pub from_next : (user process : ℕ) (w : World) → process < PROCESSES → told_from user (process + 1) 1 w ≡ processes_behind user process w
 unfolding told_from
 from_next user process w few = next_of user THREADS (THREADS + 1 - 1) (process + 1) (PROCESSES - process) (PROCESSES - (process + 1)) w (omega arith) (omega arith)
 
--- the process takes its pulses, and then comes the next one
-pub process_done : (user process thread : ℕ) (session after : Session) → THREADS < thread → process < PROCESSES → after ≡ after_steps session (pulse_steps user process session.world)
-    → after_steps after (told_from user (process + 1) 1 after.world) ≡ after_steps session (told_from user process thread session.world)
-process_done user process thread session after past few is =
-    ap (after_steps after) (from_next user process after.world few)
-    ∙ (ap (λ s. after_steps s (processes_behind user process s.world)) is
-    ∙ (ap (behind_threads user process) (sym (no_threads user process thread session past)) ∙ sym (told_is user process thread session)))
-
--- or it was the last one
-pub last_done : (user process thread : ℕ) (session after : Session) → THREADS < thread → PROCESSES ≤ process → after ≡ after_steps session (pulse_steps user process session.world)
-    → after ≡ after_steps session (told_from user process thread session.world)
-last_done user process thread session after past last is =
-    let none : PROCESSES - process ≡ zero = omega arith in
-    sym (ap (λ n. after_steps after (each (process_steps user) (range_with_len (process + 1) n) after.world)) none)
-    ∙ (ap (λ s. after_steps s (processes_behind user process s.world)) is
-    ∙ (ap (behind_threads user process) (sym (no_threads user process thread session past)) ∙ sym (told_is user process thread session)))
+-- the process takes its pulses, and then come the processes behind it
+pub process_done : (user process thread : ℕ) (session after : Session) → threads_from user process thread session.world ≡ [] → after ≡ after_steps session (pulse_steps user process session.world)
+    → after_steps after (processes_behind user process after.world) ≡ after_steps session (told_from user process thread session.world)
+process_done user process thread session after none is =
+    ap (λ s. after_steps s (processes_behind user process s.world)) is
+    ∙ (ap (behind_threads user process) (sym (ap (after_steps session) none)) ∙ sym (told_is user process thread session))
 
 -- what came of pulses that are not all taken
-pub pulses_late : (user process thread : ℕ) (session after : Session) → THREADS < thread
+pub pulses_late : (user process thread now : ℕ) (session after : Session) → threads_from user process thread session.world ≡ [] → threads_from user process now after.world ≡ []
     → after_steps after (pulse_steps user process after.world) ≡ after_steps session (pulse_steps user process session.world)
-    → after_steps after (told_from user process thread after.world) ≡ after_steps session (told_from user process thread session.world)
-pulses_late user process thread session after past is =
+    → after_steps after (told_from user process now after.world) ≡ after_steps session (told_from user process thread session.world)
+pulses_late user process thread now session after none also is =
     let behind : Session → Session = λ s. after_steps s (processes_behind user process s.world) in
-    told_is user process thread after
-    ∙ (ap (behind_threads user process) (no_threads user process thread after past)
+    told_is user process now after
+    ∙ (ap (behind_threads user process) (ap (after_steps after) also)
     ∙ (ap behind is
-    ∙ (ap (behind_threads user process) (sym (no_threads user process thread session past)) ∙ sym (told_is user process thread session))))
+    ∙ (ap (behind_threads user process) (sym (ap (after_steps session) none)) ∙ sym (told_is user process thread session))))
 
 -- ---- pulses
 

@@ -1,5 +1,5 @@
 -- Serving in a world where all that waits is one user's: each step is that user's, and no item waits after it.
-use Rattle.std.proofs.Common.{◌≡◌, ℕ, zero, suc, ◌*◌, ◌≤◌, ◌<◌, List, [], ◌∷◌, true, length, refl, sym, ap, subst, ◌∙◌, arith, slice_set}
+use Rattle.std.proofs.Common.{◌≡◌, ℕ, zero, suc, ◌*◌, ◌≤◌, ◌<◌, [], ◌∷◌, true, length, refl, sym, ap, subst, ◌∙◌, arith, slice_set}
 use Rattle.std.specs.Prelude.{◌==◌, Option, Some, None, drop, find, map, nat_lt, replicate, sum_by}
 use Rattle.std.proofs.lemmas.Bool.{eqb-true}
 use Rattle.qx_types.specs.Managers.{manager_number, managers}
@@ -22,7 +22,7 @@ use Rattle.qx_isolation.proofs.Places.{at-map}
 use Rattle.qx_isolation.proofs.Steps.{reached_step}
 use Rattle.qx_isolation.proofs.Views.{IsReached}
 use Rattle.qx_isolation.proofs.Workers.{item_done, item_taken}
-use Rattle.qx_live.specs.Chosen.{first_worker, followed, items_waiting, round_steps, rounds, served_steps}
+use Rattle.qx_live.specs.Chosen.{first_worker, items_waiting, round_steps, rounds, served_steps}
 use Rattle.qx_live.proofs.Choices.{IsOf, followed_of, none_of}
 use Rattle.qx_live.proofs.Emptied.{empties, stays, turn}
 use Rattle.qx_live.proofs.Items.{filled, find_passes, first_own, free_again, free_first, no_items}

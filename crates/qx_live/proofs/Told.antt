@@ -219,7 +219,7 @@ pulse_made part proc None first is = absurd (false≢true is)
 pulse_made part proc (Some process) None is = absurd (false≢true is)
 pulse_made part proc (Some process) (Some first) is = refl
 
-has_pulse_is : (w : World) (proc : Proc) (row : Option Part) → row_at w.parts proc.user.0 ≡ row → has_pulse w proc ≡ pulse_at row proc.num
+pub has_pulse_is : (w : World) (proc : Proc) (row : Option Part) → row_at w.parts proc.user.0 ≡ row → has_pulse w proc ≡ pulse_at row proc.num
 unfolding users.client
 has_pulse_is w proc None there = ap (λ given. is_pulse given.outcome) (client_is w (TakePulse proc) (OfProc proc) refl ∙ ap (client_step w proc.user.0 (TakePulse proc)) there)
 has_pulse_is w proc (Some part) there =

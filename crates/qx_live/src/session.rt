@@ -1,18 +1,19 @@
 //! A live session: a world, what was written of it, and what is due of a line that came to want memory.
 
-ghost use Rattle.std.specs.Prelude.{◌≡◌, ◌<◌, if◌then◌else◌, Some, None, IfOk, IsErrOf, OnErr, OnOk};
-ghost use Rattle.qx_types.specs.declared.step.Step.TheVariants.{TakePulse};
+ghost use Rattle.std.specs.Prelude.{◌≡◌, ◌⊎◌, ◌+◌, ◌<◌, ◌≤◌, if◌then◌else◌, [], Some, None, IfNone, IfOk, IfSome, IsErrOf, IsFalse, IsOk, IsTrue, OnErr, OnOk, OnSome, true};
+ghost use Rattle.qx_types.specs.declared.limits.TheConstants.Limits.{PROCESSES, THREADS};
+ghost use Rattle.qx_types.specs.declared.step.Step.TheVariants.{Perform, Receive, TakePulse};
+ghost use Rattle.qx_machine.specs.Wants.{wants_memory};
+ghost use Rattle.qx_live.specs.Chosen.{first_worker};
 ghost use Rattle.qx_live.specs.Live as live;
 ghost use Rattle.qx_live.specs.Live.{after_line, after_step, after_steps, begun, has_pulse, pulse_steps, reply_steps};
-ghost use Rattle.qx_live.specs.Sessions.{caught_up, due_of, session_of};
-ghost use Rattle.qx_live.specs.inner.Left.{left_of};
-ghost use Rattle.qx_live.specs.declared.session.Due.TheVariants as due;
+ghost use Rattle.qx_live.specs.Sessions.{caught_up, due_of, processes_behind, room_of, served, session_of, threads_from, told_from, IsShort};
 ghost use Rattle.qx_live.specs.declared.session.LineFault.{LineFault};
 
 use crate::line::LiveLine;
 use crate::waiting::waiting;
 use qx_isolation::Seen;
-use qx_types::{Actor, Config, Limits, NoMemory, Outcome, Proc, Step, Thread, User, Worker};
+use qx_types::{Actor, Config, Limits, Manager, NoMemory, Outcome, Proc, Thread, User, Worker};
 use qx_world::World;
 use std::alloc::Global;
 use thiserror::Error;
@@ -70,6 +71,20 @@ impl Session {
         &self.world
     }
 
+    /// Makes room for the next outcomes that are written: no step is refused or late for them. What a step wants itself is not
+    /// reserved: a spawn, a call and a mount want memory where they are not refused, and so does the performing of a message
+    /// that makes something new.
+    pub fn reserve(&mut self, count: usize) -> Result<(), NoMemory>
+        ensures same { session_of self.new ≡ session_of self.old }
+        ensures due { due_of self.new ≡ due_of self.old }
+        ensures room { OnOk result (count ≤ room_of self.new) }
+        ensures kept { room_of self.old ≤ room_of self.new }
+        ensures enough { count ≤ room_of self.old → IsOk result }
+    {
+        self.written.try_reserve(count)?;
+        Ok(())
+    }
+
     /// A line: what is left of the line before is made up, the line's step is taken, what waits is served, and the user is
     /// told what came of it. Where memory is short, either the line was not taken, or what is left of it is made up later;
     /// with that, what is written is what would have been written.
@@ -77,7 +92,9 @@ impl Session {
         ensures done { OnOk result (session_of self.new ≡ after_line (caught_up self.old) line.now) }
         ensures none_due { OnOk result (due_of self.new ≡ None) }
         ensures late { IsErrOf result LineFault.Late → caught_up self.new ≡ after_line (caught_up self.old) line.now }
+        ensures late_as_short { IsErrOf result LineFault.Late → IsShort self.new }
         ensures refused { IsErrOf result LineFault.Refused → caught_up self.new ≡ caught_up self.old }
+        ensures refused_as_short { IsErrOf result LineFault.Refused → IsShort self.new ⊎ (wants_memory (session_of self.new).world line.now.step ≡ true) }
     {
         if self.catch_up().is_err() {
             return Err(LineFault::Refused);
@@ -95,19 +112,23 @@ impl Session {
     pub fn catch_up(&mut self) -> Result<(), NoMemory>
         ensures same { caught_up self.new ≡ caught_up self.old }
         ensures none_due { OnOk result (due_of self.new ≡ None) }
+        ensures short { OnErr result (IsShort self.new) }
     {
-        'due: while let Some(due) = self.due {
-            match due {
-                Due::Serving { user, moment, left } => self.serve(user, moment, left)?,
-                Due::Performing { user, moment, left } => self.perform(user, moment, left)?,
-                Due::Telling {
-                    user,
-                    process,
-                    thread,
-                } => self.tell(user, process, thread)?,
+        let Some(due) = self.due else {
+            return Ok(());
+        };
+        match due {
+            Due::Serving { user, moment, left } => self.serve(user, moment, left),
+            Due::Performing { user, moment, left } => {
+                self.perform(moment)?;
+                self.serve(user, moment, left)
             }
+            Due::Telling {
+                user,
+                process,
+                thread,
+            } => self.tell(user, process, thread),
         }
-        Ok(())
     }
 
     /// Takes the step of a line, and owes what it leads to.
@@ -116,11 +137,14 @@ impl Session {
         requires { due_of self.old ≡ None }
         ensures taken { OnOk result (caught_up self.new ≡ after_line (session_of self.old) line.now) }
         ensures err { OnErr result (caught_up self.new ≡ session_of self.old) }
+        ensures short { OnErr result (IsShort self.new ⊎ (wants_memory (session_of self.new).world line.now.step ≡ true)) }
     {
         let Some(actor) = line.step.actor() else {
             return Ok(());
         };
-        self.take(&line.step)?;
+        self.written.try_reserve(1)?;
+        let outcome = self.world.step(&line.step)?;
+        self.written.push_reserved(Seen { actor, outcome });
         self.due = Some(Due::Serving {
             user: actor.user(),
             moment: line.moment,
@@ -129,90 +153,117 @@ impl Session {
         Ok(())
     }
 
-    /// Takes a step, and writes what came of it if it is a client's.
-    fn take(&mut self, step: &Step) -> Result<(), NoMemory>
-        ensures taken { OnOk result (session_of self.new ≡ after_step (session_of self.old) step.now) }
-        ensures err { OnErr result (session_of self.new ≡ session_of self.old) }
-        ensures due { due_of self.new ≡ due_of self.old }
+    /// The first worker serves what waits, so many rounds at most, and the user is told what came of it.
+    fn serve(&mut self, user: User, moment: u64, left: u128) -> Result<(), NoMemory>
+        ensures same { caught_up self.new ≡ served user.0 moment left (session_of self.old) }
+        ensures none_due { OnOk result (due_of self.new ≡ None) }
+        ensures short { OnErr result (IsShort self.new) }
     {
-        let Some(actor) = step.actor() else {
-            let _outcome = self.world.step(step)?;
-            return Ok(());
-        };
-        self.written.try_reserve(1)?;
-        let outcome = self.world.step(step)?;
-        self.written.push_reserved(Seen { actor, outcome });
-        Ok(())
+        let mut rounds = left;
+        'rounds: while rounds > 0 {
+            let Some(manager) = self.world.next_manager() else {
+                return self.tell(user, 1, 1);
+            };
+            self.receive(manager);
+            rounds -= 1;
+            let Ok(()) = self.perform(moment) else {
+                let left = rounds;
+                self.due = Some(Due::Performing { user, moment, left });
+                return Err(NoMemory);
+            };
+        }
+        self.tell(user, 1, 1)
     }
 
-    /// The first worker takes an item, if one waits.
-    fn serve(&mut self, user: User, moment: u64, left: u128) -> Result<(), NoMemory>
-        requires { due_of self.old ≡ Some (due.Serving user moment left) }
-        ensures same { caught_up self.new ≡ caught_up self.old }
-        ensures less { OnOk result (left_of (due_of self.new) < left_of (due_of self.old)) }
+    /// The first worker takes the first item of a line.
+    fn receive(&mut self, manager: Manager)
+        ensures taken { session_of self.new ≡ after_step (session_of self.old) (Receive first_worker manager) }
     {
-        let telling = Due::Telling {
-            user,
-            process: 1,
-            thread: 1,
-        };
-        if left == 0 {
-            self.due = Some(telling);
-            return Ok(());
-        }
-        let Some(manager) = self.world.next_manager() else {
-            self.due = Some(telling);
-            return Ok(());
-        };
-        let worker = FIRST;
-        self.take(&Step::Receive { worker, manager })?;
-        self.due = Some(Due::Performing {
-            user,
-            moment,
-            left: left - 1,
-        });
-        Ok(())
+        let _outcome = self.world.receive(FIRST, manager);
     }
 
     /// The first worker does what it holds.
-    fn perform(&mut self, user: User, moment: u64, left: u128) -> Result<(), NoMemory>
-        requires { due_of self.old ≡ Some (due.Performing user moment left) }
-        ensures same { caught_up self.new ≡ caught_up self.old }
-        ensures less { OnOk result (left_of (due_of self.new) < left_of (due_of self.old)) }
+    fn perform(&mut self, moment: u64) -> Result<(), NoMemory>
+        ensures done { OnOk result (session_of self.new ≡ after_step (session_of self.old) (Perform first_worker moment)) }
+        ensures err { OnErr result (session_of self.new ≡ session_of self.old) }
+        ensures due { due_of self.new ≡ due_of self.old }
+        ensures wants { OnErr result (wants_memory (session_of self.new).world (Perform first_worker moment) ≡ true) }
     {
-        let worker = FIRST;
-        self.take(&Step::Perform { worker, moment })?;
-        self.due = Some(Due::Serving { user, moment, left });
+        let _outcome = self.world.perform_held(FIRST, moment)?;
         Ok(())
     }
 
-    /// A thread takes its answer, if it has one; or, after all threads of a process, that takes its pulses.
+    /// A user is told what there is from a thread of a process on.
     fn tell(&mut self, user: User, process: u8, thread: u8) -> Result<(), NoMemory>
-        requires { due_of self.old ≡ Some (due.Telling user process thread) }
-        ensures same { caught_up self.new ≡ caught_up self.old }
-        ensures less { OnOk result (left_of (due_of self.new) < left_of (due_of self.old)) }
+        ensures same { caught_up self.new ≡ after_steps (session_of self.old) (told_from user.0 process thread (session_of self.old).world) }
+        ensures none_due { OnOk result (due_of self.new ≡ None) }
+        ensures full { OnErr result (room_of self.new ≡ 0) }
+    {
+        self.tell_process(user, process, thread)?;
+        let mut last = process;
+        'processes: while let Some(next) = self.process_behind(user, last) {
+            self.tell_process(user, next, 1)?;
+            last = next;
+        }
+        self.due = None;
+        Ok(())
+    }
+
+    /// The threads of a process take their answers, from one on, and then the process its pulses. Where there is no room, what
+    /// the user is not told yet is due.
+    fn tell_process(&mut self, user: User, process: u8, thread: u8) -> Result<(), NoMemory>
+        ensures told { OnOk result (after_steps (session_of self.new) (processes_behind user.0 process (session_of self.new).world) ≡ after_steps (session_of self.old) (told_from user.0 process thread (session_of self.old).world)) }
+        ensures late { OnErr result (caught_up self.new ≡ after_steps (session_of self.old) (told_from user.0 process thread (session_of self.old).world)) }
+        ensures full { OnErr result (room_of self.new ≡ 0) }
     {
         let proc = Proc { user, num: process };
-        if thread <= Limits::THREADS {
-            self.tell_thread(Thread { proc, tid: thread })?;
+        let mut tid = thread;
+        'threads: while self.has_thread_from(proc, tid) {
+            let Ok(()) = self.tell_thread(Thread { proc, tid }) else {
+                self.due = Some(Due::Telling {
+                    user,
+                    process,
+                    thread: tid,
+                });
+                return Err(NoMemory);
+            };
+            tid += 1;
+        }
+        let Ok(()) = self.tell_pulses(proc) else {
             self.due = Some(Due::Telling {
                 user,
                 process,
-                thread: thread + 1,
+                thread: Limits::THREADS + 1,
             });
-            return Ok(());
-        }
-        self.tell_pulses(proc)?;
-        self.due = if (process as usize) < Limits::PROCESSES {
-            Some(Due::Telling {
-                user,
-                process: process + 1,
-                thread: 1,
-            })
-        } else {
-            None
+            return Err(NoMemory);
         };
         Ok(())
+    }
+
+    /// Whether a process may have a thread from a number on.
+    fn has_thread_from(&self, proc: Proc, thread: u8) -> bool
+        ensures few { IsTrue result → thread ≤ THREADS }
+        ensures none { IsFalse result → threads_from proc.user.0 proc.num thread (session_of self.now).world ≡ [] }
+    {
+        if thread > Limits::THREADS {
+            return false;
+        }
+        thread < self.world.thread_places(proc)
+    }
+
+    /// The number behind a process', if the user may have a process there or behind it.
+    fn process_behind(&self, user: User, process: u8) -> Option<u8>
+        ensures next { IfSome result (λ next. next ≡ process + 1) }
+        ensures few { OnSome result (process < PROCESSES) }
+        ensures none { IfNone result (processes_behind user.0 process (session_of self.now).world ≡ []) }
+    {
+        if process as usize >= Limits::PROCESSES {
+            return None;
+        }
+        if process + 1 >= self.world.process_places(user) {
+            return None;
+        }
+        Some(process + 1)
     }
 
     /// A thread takes its answer, if it has one.
@@ -221,10 +272,15 @@ impl Session {
         ensures told { OnOk result (session_of self.new ≡ after_steps (session_of self.old) (reply_steps thread.proc.user.0 thread.proc.num thread.tid (session_of self.old).world)) }
         ensures err { OnErr result (session_of self.new ≡ session_of self.old) }
         ensures due { due_of self.new ≡ due_of self.old }
+        ensures full { OnErr result (room_of self.new ≡ 0) }
     {
-        if self.world.answered(thread) {
-            self.take(&Step::TakeReply { thread })?;
+        if !self.world.answered(thread) {
+            return Ok(());
         }
+        self.written.try_reserve(1)?;
+        let outcome = self.world.take_reply(thread);
+        let actor = Actor::OfThread(thread);
+        self.written.push_reserved(Seen { actor, outcome });
         Ok(())
     }
 
@@ -234,6 +290,7 @@ impl Session {
         ensures told { OnOk result (session_of self.new ≡ after_steps (session_of self.old) (pulse_steps proc.user.0 proc.num (session_of self.old).world)) }
         ensures err { OnErr result (after_steps (session_of self.new) (pulse_steps proc.user.0 proc.num (session_of self.new).world) ≡ after_steps (session_of self.old) (pulse_steps proc.user.0 proc.num (session_of self.old).world)) }
         ensures due { due_of self.new ≡ due_of self.old }
+        ensures full { OnErr result (room_of self.new ≡ 0) }
     {
         'pulses: while self.tell_pulse(proc)? {}
         Ok(())
@@ -245,6 +302,7 @@ impl Session {
         ensures taken { IfOk result (λ some. session_of self.new ≡ (if some then after_step (session_of self.old) (TakePulse proc) else session_of self.old)) }
         ensures err { OnErr result (session_of self.new ≡ session_of self.old) }
         ensures due { due_of self.new ≡ due_of self.old }
+        ensures full { OnErr result (room_of self.new ≡ 0) }
     {
         self.world.know_reached();
         if self.world.lacks_pulse(proc) {

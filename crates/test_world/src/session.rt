@@ -137,3 +137,16 @@ fn what_memory_was_short_for_is_made_up(rt: HostRuntime) -> Result<(), LinesFaul
     assert!(rt; session.written.as_slice() == untroubled.written.as_slice());
     Ok(())
 }
+
+#[test]
+fn with_room_only_what_a_step_wants_is_short(rt: HostRuntime) -> Result<(), LinesFault> {
+    let alloc = rt.alloc();
+    let mut session = played(alloc, "spawn ann 2 10\n")?;
+    let lines = live_lines(alloc, "prio ann.1.1 9\nspawn ann 1 9\nexit ann.1\n")?;
+    session.reserve(2)?;
+    let _pieces = take_all_memory(alloc)?;
+    for (line, end) in lines.iter().zip([Ok(()), Err(LineFault::Refused), Ok(())]) {
+        assert!(rt; session.line(line) == end);
+    }
+    Ok(())
+}

@@ -1,40 +1,24 @@
-use Rattle.std.proofs.Common.{◌≡◌, ◌∙◌, ◌≤◌, ◌<◌, ap, arith, sym}
-use Rattle.qx_types.specs.declared.limits.TheConstants.Limits.{PROCESSES, THREADS}
+use Rattle.std.proofs.Common.{◌∙◌, ap, sym}
 use Rattle.qx_live.specs.Live.{after_steps}
-use Rattle.qx_live.specs.Sessions.{due_steps, session_of}
-use Rattle.qx_live.proofs.Sequences.{last_done, process_done, pulses_late, thread_done}
+use Rattle.qx_live.specs.Sessions.{session_of, told_from}
+use Rattle.qx_live.proofs.Sequences.{from_next}
 use Rattle.qx_live.proofs.session.Session.tell.Goals as goal
-use Rattle.qx_live.proofs.session.Session.tell.Goals.{then-process-lt-PROCESSES, else-process-lt-PROCESSES}
 
-pub returns-then-thread-le-THREADS-clause-same : goal.returns-then-thread-le-THREADS-clause-same
-returns-then-thread-le-THREADS-clause-same c =
-    let session = session_of c.args.self.now in
-    let few : c.args.thread ≤ THREADS = omega arith in
-    thread_done c.args.user.0 c.args.process c.args.thread session (session_of c.tell_thread.new.self) few c.in_ok-tell_thread.ensures.told
-    ∙ ap (λ due. after_steps session (due_steps due session.world)) (sym c.requires)
+pub returns-in_err-tell_process-2-clause-same : goal.returns-in_err-tell_process-2-clause-same
+returns-in_err-tell_process-2-clause-same c =
+    let session = session_of c.processes.self in
+    c.in_err-tell_process-2.ensures.late
+    ∙ (ap (λ process. after_steps session (told_from c.args.user.0 process 1 session.world)) c.in-Some.ensures.next
+    ∙ (ap (after_steps session) (from_next c.args.user.0 c.processes.last session.world c.in-Some.ensures.few) ∙ (c.processes.invariant ∙ c.in_ok-tell_process.ensures.told)))
 
-pub returns-in_err-tell_pulses-clause-same : goal.returns-in_err-tell_pulses-clause-same
-returns-in_err-tell_pulses-clause-same c =
-    let session = session_of c.args.self.now in
-    let after = session_of c.tell_pulses.new.self in
-    let past : THREADS < c.args.thread = omega arith in
-    ap (λ due. after_steps after (due_steps due after.world)) (c.tell_pulses.ensures.due ∙ c.requires)
-    ∙ (pulses_late c.args.user.0 c.args.process c.args.thread session after past c.in_err-tell_pulses.ensures.err
-    ∙ ap (λ due. after_steps session (due_steps due session.world)) (sym c.requires))
+pub processes-preserved : goal.processes-preserved
+processes-preserved c =
+    let session = session_of c.processes.self in
+    c.in_ok-tell_process-2.ensures.told
+    ∙ (ap (λ process. after_steps session (told_from c.args.user.0 process 1 session.world)) c.in-Some.ensures.next
+    ∙ (ap (after_steps session) (from_next c.args.user.0 c.processes.last session.world c.in-Some.ensures.few) ∙ c.processes.invariant))
 
 pub returns-clause-same : goal.returns-clause-same
 returns-clause-same c =
-    let session = session_of c.args.self.now in
-    let after = session_of c.tell_pulses.new.self in
-    let past : THREADS < c.args.thread = omega arith in
-    let owed = ap (λ due. after_steps session (due_steps due session.world)) (sym c.requires) in
-    elim c.if-process-lt-PROCESSES.branch [
-      | then-process-lt-PROCESSES w ↦
-          let few : c.args.process < PROCESSES = omega (arith, w.if-process-lt-PROCESSES) in
-          ap (λ due. after_steps after (due_steps due after.world)) w.self-is
-          ∙ (process_done c.args.user.0 c.args.process c.args.thread session after past few c.in_ok-tell_pulses.ensures.told ∙ owed)
-      | else-process-lt-PROCESSES w ↦
-          let last : PROCESSES ≤ c.args.process = omega (arith, w.if-process-lt-PROCESSES) in
-          ap (λ due. after_steps after (due_steps due after.world)) w.self-is
-          ∙ (last_done c.args.user.0 c.args.process c.args.thread session after past last c.in_ok-tell_pulses.ensures.told ∙ owed)
-    ]
+    let session = session_of c.processes.self in
+    sym (ap (after_steps session) c.in_default.ensures.none) ∙ (c.processes.invariant ∙ c.in_ok-tell_process.ensures.told)

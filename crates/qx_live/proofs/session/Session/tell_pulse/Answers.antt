@@ -1,9 +1,8 @@
-use Rattle.std.proofs.Common.{rules, ◌≡◌, ◌∙◌, ap, false, sym}
+use Rattle.std.proofs.Common.{rules, ◌≡◌, ◌∙◌, false}
 use Rattle.qx_types.specs.declared.step.Step.TheVariants.{TakePulse}
 use Rattle.qx_chan.specs.Channel.{is_no_pulse}
 use Rattle.qx_machine.specs.Machine.{step}
-use Rattle.qx_live.specs.Live.{Session, has_pulse}
-use Rattle.qx_live.specs.Sessions.{session_of}
+use Rattle.qx_live.specs.Live.{has_pulse}
 use Rattle.qx_live.proofs.Reached.{unpulsed}
 use Rattle.qx_live.proofs.session.Session.tell_pulse.Goals as goal
 
