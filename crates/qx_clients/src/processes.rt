@@ -184,8 +184,10 @@ impl Processes {
     {
         // there is a place for number 0
         let _ = &self.rows;
-        let process = Process::new(alloc, threads, prio)?;
-        places::put(&mut self.rows, number as usize, process)
+        match Process::new(alloc, threads, prio) {
+            Ok(process) => places::put(&mut self.rows, number as usize, process),
+            Err(error) => Err(error),
+        }
     }
 
     /// A thread gets another priority, from 1 to the user's ceiling (C Library Reference: `SchedSet`). `WrongState` where it is

@@ -6,7 +6,7 @@ ghost use Rattle.qx_isolation.specs.Rows.{row_at, lowest_from, put_row};
 
 use crate::growth;
 use arrayvec::ArrayVec;
-use qx_hint::unwrap_unchecked;
+use qx_hint::{assert_unchecked, unwrap_unchecked};
 use std::alloc::{AllocError, Global};
 
 /// The row under a number.
@@ -63,10 +63,23 @@ pub fn put_reserved<T: Drop>(places: &mut Vec<Option<T>>, number: usize, row: T)
     ensures capacity { vec_capacity places.new ≡ vec_capacity places.old }
 {
     if number < places.len() {
-        places[number] = Some(row);
+        put_at(&mut places[number], row);
     } else {
         places.push_reserved(Some(row));
     }
+}
+
+/// Puts a row at its place, which is free most often.
+#[inline(always)]
+fn put_at<T: Drop>(place: &mut Option<T>, row: T)
+    ensures row { place.new ≡ Some row }
+{
+    if place.is_some() {
+        *place = None;
+    }
+    // so the compiler needs no copy of what goes
+    assert_unchecked(place.is_none());
+    *place = Some(row);
 }
 
 /// Puts a row under a number, where the table may have so many places.
