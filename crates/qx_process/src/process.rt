@@ -393,7 +393,7 @@ impl Process {
         ensures process { self.new ≡ machine.ended self.old }
         ensures lost { LosesAll self.old self.new }
     {
-        self.held = threads::end(&mut self.threads, alloc);
+        threads::end(&mut self.threads, &mut self.held, alloc);
         self.connections.clear();
         self.sides = [None; PLACES];
         servers::leave(&mut self.servers);

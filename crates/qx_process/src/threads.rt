@@ -34,16 +34,15 @@ pub fn new_threads(count: u8, prio: Prio) -> Threads
 }
 
 /// All threads go, and what workers hold of them is kept.
-pub fn end(threads: &mut Threads, alloc: Global) -> Held
-    ensures held { result.items ≡ map received_by threads.old.items }
+pub fn end(threads: &mut Threads, held: &mut Held, alloc: Global)
+    ensures held { held.new.items ≡ map received_by threads.old.items }
     ensures gone { threads.new.items ≡ [] }
 {
-    let mut held = ArrayVec::new();
+    held.clear();
     for number in 0..threads.len() {
         held.push(received(&mut threads[number], alloc));
     }
     threads.clear();
-    held
 }
 
 /// A thread goes from its place, and what a worker holds of it is handed out.
