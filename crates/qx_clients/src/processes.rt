@@ -184,6 +184,7 @@ impl Processes {
     {
         // there is a place for number 0
         let _ = &self.rows;
+        // matched here, as a `?` would copy the process once more
         match Process::new(alloc, threads, prio) {
             Ok(process) => places::put(&mut self.rows, number as usize, process),
             Err(error) => Err(error),
