@@ -6,8 +6,8 @@ use Rattle.qx_types.specs.declared.step.Step.{Step}
 use Rattle.qx_isolation.specs.Rows.{row_at}
 use Rattle.qx_machine.specs.Machine.{World}
 use Rattle.qx_desk.specs.Desks.{Comes, Leads, RanShort, after_each, arrived, rows_of}
-use Rattle.qx_desk.specs.Fronts.{Arrived, Came, Desk, Front, Left, Turn, program_for, turn, turn_of}
-use Rattle.qx_desk.specs.Programs.{Ran, each_taken, line_for, ran}
+use Rattle.qx_desk.specs.Fronts.{Came, Desk, Front, Left, Turn, program_for, turn, turn_of}
+use Rattle.qx_desk.specs.Programs.{Ran, each_taken, line_for}
 use Rattle.qx_desk.specs.declared.taking.By.{By}
 use Rattle.qx_desk.proofs.Comings.{leads_nowhere}
 

@@ -1,5 +1,5 @@
 -- What is taken at a session in code, and a desk in code, as the definitions see them.
-use Rattle.std.specs.Prelude.{◌≡◌, ℕ, List, [], ◌∷◌, Option, Some, None, map}
+use Rattle.std.specs.Prelude.{◌≡◌, List, [], ◌∷◌, Option, Some, None, map}
 use Rattle.qx_types.specs.declared.step.Step.{Step}
 use Rattle.qx_isolation.specs.declared.rows.Seen.{Seen}
 use Rattle.qx_machine.specs.Machine.{World}
