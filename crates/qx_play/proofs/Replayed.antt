@@ -1,5 +1,5 @@
 -- What a session writes at a line tells which steps of the line took answers and pulses.
-use Rattle.std.proofs.Common.{◌≡◌, ◌∙◌, ℕ, zero, suc, ◌*◌, Bool, true, false, cond, List, [], ◌∷◌, ◌++◌, Option, Some, None, append_assoc, append-nil, ap, drop, refl, sym}
+use Rattle.std.proofs.Common.{◌≡◌, ◌∙◌, ℕ, zero, suc, ◌*◌, Bool, true, false, cond, List, [], ◌∷◌, ◌++◌, Option, Some, None, append_assoc, ap, drop, refl, sym}
 use Rattle.std.specs.Prelude.{All}
 use Rattle.std.specs.List.{range_with_len}
 use Rattle.std.proofs.lemmas.List.Elements.{All-append, All-cons, All-head, All-nil, All-tail}
@@ -11,12 +11,12 @@ use Rattle.qx_types.specs.declared.names.Manager.{Manager}
 use Rattle.qx_types.specs.declared.names.Proc.{Proc}
 use Rattle.qx_types.specs.declared.outcome.Outcome.{Outcome}
 use Rattle.qx_types.specs.declared.step.Step.{Step}
-use Rattle.qx_types.specs.declared.step.Step.TheVariants.{Perform, Receive, TakePulse, TakeReply}
+use Rattle.qx_types.specs.declared.step.Step.TheVariants.{TakePulse, TakeReply}
 use Rattle.qx_isolation.specs.declared.rows.Seen.{Seen}
 use Rattle.qx_machine.specs.Machine.{World, boot, named_thread, step}
 use Rattle.qx_machine.specs.Reads.{next_manager}
 use Rattle.qx_machine.specs.Runs.{entries_from, world_after}
-use Rattle.qx_live.specs.Chosen.{each, first_worker, followed, items_waiting, round_steps, rounds, served_steps}
+use Rattle.qx_live.specs.Chosen.{each, followed, items_waiting, round_steps, rounds, served_steps}
 use Rattle.qx_live.specs.Live.{Session, after_line, after_steps, has_pulse, is_answered, line_steps, live_steps, process_steps, pulse_steps, pulses, reply_steps, steps_by, told_steps, written_by, written_of}
 use Rattle.qx_live.specs.Sessions.{due_steps}
 use Rattle.qx_live.specs.declared.line.LiveLine.{LiveLine}

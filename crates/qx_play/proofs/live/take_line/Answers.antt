@@ -1,8 +1,8 @@
-use Rattle.std.proofs.Common.{rules, ◌≡◌, ◌∙◌, ◌++◌, ◌∷◌, [], None, Some, append-nil, ap, sym}
+use Rattle.std.proofs.Common.{rules, ◌≡◌, ◌∙◌, ◌++◌, [], None, Some, append-nil, ap, sym}
 use Rattle.qx_types.specs.Step.{actor_of}
 use Rattle.qx_live.specs.Live.{Session, after_line, line_steps}
 use Rattle.qx_live.specs.Sessions.{session_of}
-use Rattle.qx_play.specs.Play.{all_served, world_played}
+use Rattle.qx_play.specs.Play.{world_played}
 use Rattle.qx_play.proofs.Replayed.{line_of, line_same, line_taken, no_line}
 use Rattle.qx_play.proofs.live.take_line.Goals as goal
 
