@@ -1,4 +1,4 @@
-//! What the tests of the world and of the threads share.
+//! What the tests of the desk, of the world and of the threads share.
 //!
 //! - `script.rt`: steps, from lines of a script
 //! - `same.rt`: two traces compared by all that can be seen of them
