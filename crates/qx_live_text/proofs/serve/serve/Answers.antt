@@ -1,4 +1,4 @@
-use Rattle.std.proofs.Common.{rules, ◌≡◌, ◌++◌, ◌<◌, arith, length, refl, subst, true}
+use Rattle.std.proofs.Common.{rules, ◌≡◌, ◌++◌, ◌<◌, length, refl, subst, true}
 use Rattle.std.specs.Prelude.{IfSome}
 use Rattle.std.specs.Io.BufRead.{strip_last, take_through}
 use Rattle.qx_live_text.specs.Front.{answer}
