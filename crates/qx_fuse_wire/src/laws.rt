@@ -1,0 +1,1 @@
+//! What holds of the table of requests, and of what bytes mean by it.

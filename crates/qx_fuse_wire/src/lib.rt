@@ -1,0 +1,21 @@
+//! Requests and replies of a file system that the Linux kernel mounts, as bytes: the FUSE protocol, 7.31 and up.
+//!
+//! - `body.rt`: `Header`, `Body` and `Meaning`, what a request says; `forgets.rt`: what a BATCH_FORGET forgets
+//! - `fields.rt`: numbers and names at the front of bytes
+//! - `bodies.rt`: each kind of body; `reading.rt`: `meaning`, what bytes mean
+//! - `laws.rt`: bytes mean a request exactly if they spell it
+//!
+//! A reader has to believe `Forms.antt`, what fields are as bytes, and `Table.antt`, one line for each kind of request. Layouts are
+//! those of <linux/fuse.h>, on a machine whose numbers stand with their lowest byte first.
+#![tactic(auto)]
+
+pub mod bodies;
+pub mod body;
+pub mod fields;
+pub mod forgets;
+pub mod laws;
+pub mod reading;
+
+pub use body::{Body, Header, Meaning, Opened, Reads};
+pub use forgets::Forgets;
+
