@@ -110,4 +110,4 @@ CanBe (field then form) values = Fits field values.0 × CanBe form values.1
 -- so many pairs of numbers of 64 bits
 abbrev pub pairs : ℕ → List ℕ → List (ℕ × ℕ)
 pairs zero bytes = []
-pairs (suc count) bytes = (from_le_bytes w64 (take 8 bytes), from_le_bytes w64 (take 8 (drop 8 bytes))) ∷ pairs count (drop 16 bytes)
+pairs (suc count) bytes = (from_le_bytes w64 (take 8 bytes), from_le_bytes w64 (take 8 (drop 8 bytes))) ∷ pairs count (drop 8 (drop 8 bytes))

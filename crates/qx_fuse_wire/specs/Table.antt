@@ -8,13 +8,22 @@ use Rattle.qx_fuse_wire.specs.declared.body.Opened.{Opened}
 use Rattle.qx_fuse_wire.specs.declared.body.Opened.TheVariants.{File, Directory}
 use Rattle.qx_fuse_wire.specs.declared.body.Reads.{Reads}
 use Rattle.qx_fuse_wire.specs.declared.body.Reads.TheVariants as reads
-use Rattle.qx_fuse_wire.specs.Forms.{Form, Maker, end, all, skip, ◌then◌, number, a_name, a_text, pairs, read}
+use Rattle.qx_fuse_wire.specs.Forms.{Field, Form, Maker, end, all, skip, ◌then◌, number, a_name, a_text, pairs, read}
+
+abbrev pub u16 : Field
+u16 = number w16
+
+abbrev pub u32 : Field
+u32 = number w32
+
+abbrev pub u64 : Field
+u64 = number w64
 
 -- ---- the header
 
 -- length, opcode, unique, node, user, group, process, extensions, and two bytes that say nothing
 abbrev pub header_form : Form
-header_form = number w32 then number w32 then number w64 then number w64 then number w32 then number w32 then number w32 then number w16 then skip 2 all
+header_form = u32 then u32 then u64 then u64 then u32 then u32 then u32 then u16 then skip 2 all
 
 abbrev pub header_made : Maker header_form (Header × List ℕ)
 header_made = λ length opcode unique node user group process extensions rest. Some (record { length = length; opcode = opcode; unique = unique; node = node; user = user; group = group; process = process; extensions = extensions }, rest)
@@ -37,7 +46,117 @@ abbrev pub lookup : Line
 lookup = line 1 (a_name then end) (λ name. Some (body.Lookup name))
 
 abbrev pub forget : Line
-forget = line 2 (number w64 then end) (λ lookups. Some (body.Forget lookups))
+forget = line 2 (u64 then end) (λ lookups. Some (body.Forget lookups))
 
 abbrev pub get_attributes : Line
-get_attributes = line 3 (number w32 then skip 4 (number w64 then end)) (λ flags handle. Some (body.GetAttributes flags handle))
+get_attributes = line 3 (u32 then skip 4 (u64 then end)) (λ flags handle. Some (body.GetAttributes flags handle))
+
+abbrev pub set_attributes : Line
+set_attributes = line 4 (u32 then skip 4 (u64 then u64 then u64 then u64 then u64 then u64 then u32 then u32 then u32 then u32 then skip 4 (u32 then u32 then skip 4 end))) (λ valid handle size lock_owner accessed modified changed accessed_nanoseconds modified_nanoseconds changed_nanoseconds mode user group. Some (body.SetAttributes valid handle size lock_owner accessed modified changed accessed_nanoseconds modified_nanoseconds changed_nanoseconds mode user group))
+
+abbrev pub read_link : Line
+read_link = line 5 end (Some body.ReadLink)
+
+abbrev pub symbolic_link : Line
+symbolic_link = line 6 (a_name then a_text then end) (λ name target. Some (body.SymbolicLink name target))
+
+abbrev pub make_node : Line
+make_node = line 8 (u32 then u32 then u32 then skip 4 (a_name then end)) (λ mode device umask name. Some (body.MakeNode mode device umask name))
+
+abbrev pub make_directory : Line
+make_directory = line 9 (u32 then u32 then a_name then end) (λ mode umask name. Some (body.MakeDirectory mode umask name))
+
+abbrev pub unlink : Line
+unlink = line 10 (a_name then end) (λ name. Some (body.Unlink name))
+
+abbrev pub remove_directory : Line
+remove_directory = line 11 (a_name then end) (λ name. Some (body.RemoveDirectory name))
+
+-- RENAME is RENAME2 without flags
+abbrev pub rename : Line
+rename = line 12 (u64 then a_name then a_name then end) (λ directory from to. Some (body.Rename directory 0 from to))
+
+abbrev pub rename_2 : Line
+rename_2 = line 45 (u64 then u32 then skip 4 (a_name then a_name then end)) (λ directory flags from to. Some (body.Rename directory flags from to))
+
+abbrev pub link : Line
+link = line 13 (u64 then a_name then end) (λ node name. Some (body.Link node name))
+
+abbrev pub open_opcode : Opened → ℕ
+open_opcode File = 14
+open_opcode Directory = 27
+
+abbrev pub release_opcode : Opened → ℕ
+release_opcode File = 18
+release_opcode Directory = 29
+
+abbrev pub sync_opcode : Opened → ℕ
+sync_opcode File = 20
+sync_opcode Directory = 30
+
+abbrev pub read_opcode : Reads → ℕ
+read_opcode reads.Bytes = 15
+read_opcode reads.Names = 28
+read_opcode reads.Entries = 44
+
+abbrev pub open_line : Opened → Line
+open_line opened = line (open_opcode opened) (u32 then u32 then end) (λ flags open_flags. Some (body.Open opened flags open_flags))
+
+abbrev pub release : Opened → Line
+release opened = line (release_opcode opened) (u64 then u32 then u32 then u64 then end) (λ handle flags release_flags lock_owner. Some (body.Release opened handle flags release_flags lock_owner))
+
+abbrev pub sync : Opened → Line
+sync opened = line (sync_opcode opened) (u64 then u32 then skip 4 end) (λ handle flags. Some (body.Sync opened handle flags))
+
+abbrev pub read_from : Reads → Line
+read_from what = line (read_opcode what) (u64 then u64 then u32 then u32 then u64 then u32 then skip 4 end) (λ handle offset size read_flags lock_owner flags. Some (body.Read what handle offset size read_flags lock_owner flags))
+
+-- there are as many bytes as the size says
+abbrev pub write : Line
+write = line 16 (u64 then u64 then u32 then u32 then u64 then u32 then skip 4 all) (λ handle offset size write_flags lock_owner flags bytes. if length bytes == size then Some (body.Write handle offset write_flags lock_owner flags bytes) else None)
+
+abbrev pub file_system : Line
+file_system = line 17 end (Some body.FileSystem)
+
+abbrev pub flush : Line
+flush = line 25 (u64 then skip 8 (u64 then end)) (λ handle lock_owner. Some (body.Flush handle lock_owner))
+
+-- what stands behind the version: a readahead and flags, and since 7.36 more flags and 44 bytes that say nothing
+abbrev pub offer : ℕ → List ℕ → Option Body
+offer minor bytes =
+    if length bytes == 8
+    then read (u32 then u32 then end) (λ readahead flags. Some (body.Offer minor readahead flags 0)) bytes
+    else read (u32 then u32 then u32 then skip 44 end) (λ readahead flags more_flags. Some (body.Offer minor readahead flags more_flags)) bytes
+
+-- of another version nothing but that is read
+abbrev pub init : Line
+init = line 26 (u32 then u32 then all) (λ major minor bytes. if major == 7 && nat_le 31 minor then offer minor bytes else Some (body.OtherVersion major minor))
+
+abbrev pub access : Line
+access = line 34 (u32 then skip 4 end) (λ mask. Some (body.Access mask))
+
+abbrev pub create : Line
+create = line 35 (u32 then u32 then u32 then u32 then a_name then end) (λ flags mode umask open_flags name. Some (body.Create flags mode umask open_flags name))
+
+abbrev pub interrupt : Line
+interrupt = line 36 (u64 then end) (λ unique. Some (body.Interrupt unique))
+
+abbrev pub destroy : Line
+destroy = line 38 end (Some body.Destroy)
+
+abbrev pub poll : Line
+poll = line 40 (u64 then u64 then u32 then u32 then end) (λ handle waiter flags events. Some (body.Poll handle waiter flags events))
+
+-- there are as many pairs as the count says
+abbrev pub batch_forget : Line
+batch_forget = line 42 (u32 then skip 4 all) (λ count bytes. if length bytes == 16 * count then Some (body.BatchForget (pairs count bytes)) else None)
+
+abbrev pub seek : Line
+seek = line 46 (u64 then u64 then u32 then skip 4 end) (λ handle offset whence. Some (body.Seek handle offset whence))
+
+abbrev pub table : List Line
+table =
+    lookup ∷ forget ∷ get_attributes ∷ set_attributes ∷ read_link ∷ symbolic_link ∷ make_node ∷ make_directory ∷ unlink ∷ remove_directory ∷
+    rename ∷ link ∷ open_line File ∷ read_from reads.Bytes ∷ write ∷ file_system ∷ release File ∷ sync File ∷ flush ∷ init ∷
+    open_line Directory ∷ read_from reads.Names ∷ release Directory ∷ sync Directory ∷ access ∷ create ∷ interrupt ∷ destroy ∷ poll ∷
+    batch_forget ∷ read_from reads.Entries ∷ rename_2 ∷ seek ∷ []

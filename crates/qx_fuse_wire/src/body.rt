@@ -40,13 +40,22 @@ pub enum Reads {
 #[derive(Debug, Drop)]
 pub enum Body<'a> {
     /// LOOKUP: the node of a name in a directory.
-    Lookup { name: BorrowedBytes<'a> },
+    Lookup {
+        name: BorrowedBytes<'a>,
+    },
     /// FORGET, without a reply: so many look-ups of the node are forgotten.
-    Forget { lookups: u64 },
+    Forget {
+        lookups: u64,
+    },
     /// BATCH_FORGET, without a reply: so many look-ups of each node are forgotten.
-    BatchForget { forgets: Forgets<'a> },
+    BatchForget {
+        forgets: Forgets<'a>,
+    },
     /// GETATTR: the attributes of a node, by a handle if the flags say so.
-    GetAttributes { flags: u32, handle: u64 },
+    GetAttributes {
+        flags: u32,
+        handle: u64,
+    },
     /// SETATTR: those of the attributes are set that `valid` has.
     SetAttributes {
         valid: u32,
@@ -71,7 +80,10 @@ pub enum Body<'a> {
         target: BorrowedBytes<'a>,
     },
     /// LINK: the node gets a further name.
-    Link { node: u64, name: BorrowedBytes<'a> },
+    Link {
+        node: u64,
+        name: BorrowedBytes<'a>,
+    },
     /// MKNOD: a file or a device is made.
     MakeNode {
         mode: u32,
@@ -86,9 +98,13 @@ pub enum Body<'a> {
         name: BorrowedBytes<'a>,
     },
     /// UNLINK: a name goes.
-    Unlink { name: BorrowedBytes<'a> },
+    Unlink {
+        name: BorrowedBytes<'a>,
+    },
     /// RMDIR: an empty directory goes.
-    RemoveDirectory { name: BorrowedBytes<'a> },
+    RemoveDirectory {
+        name: BorrowedBytes<'a>,
+    },
     /// RENAME, without flags, or RENAME2: a name of the node becomes one in another directory.
     Rename {
         directory: u64,
@@ -146,7 +162,10 @@ pub enum Body<'a> {
         flags: u32,
     },
     /// FLUSH: a descriptor of the handle was closed.
-    Flush { handle: u64, lock_owner: u64 },
+    Flush {
+        handle: u64,
+        lock_owner: u64,
+    },
     /// INIT of this protocol, 7.31 or later: what the kernel offers.
     Offer {
         minor: u32,
@@ -155,11 +174,18 @@ pub enum Body<'a> {
         more_flags: u32,
     },
     /// INIT of another version.
-    OtherVersion { major: u32, minor: u32 },
+    OtherVersion {
+        major: u32,
+        minor: u32,
+    },
     /// ACCESS: whether the caller may do that.
-    Access { mask: u32 },
+    Access {
+        mask: u32,
+    },
     /// INTERRUPT: the caller of the request with that number was interrupted.
-    Interrupt { unique: u64 },
+    Interrupt {
+        unique: u64,
+    },
     /// DESTROY: the mount goes.
     Destroy,
     /// POLL: which of the events hold; with the flag 1 a notification is asked for, under the number `waiter`.

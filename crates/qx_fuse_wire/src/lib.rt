@@ -18,4 +18,4 @@ pub mod reading;
 
 pub use body::{Body, Header, Meaning, Opened, Reads};
 pub use forgets::Forgets;
-
+pub use reading::meaning;
