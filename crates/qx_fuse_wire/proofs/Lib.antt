@@ -1,1 +1,3 @@
+pub mod NumberLemmas
 pub mod PairLemmas
+pub mod ReplyLemmas

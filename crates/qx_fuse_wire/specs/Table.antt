@@ -4,6 +4,7 @@ use Rattle.std.specs.Int.{w16, w32, w64}
 use Rattle.qx_fuse_wire.specs.declared.body.Header.{Header}
 use Rattle.qx_fuse_wire.specs.declared.body.Body.{Body}
 use Rattle.qx_fuse_wire.specs.declared.body.Body.TheVariants as body
+use Rattle.qx_fuse_wire.specs.declared.body.Times.{Times}
 use Rattle.qx_fuse_wire.specs.declared.body.Opened.{Opened}
 use Rattle.qx_fuse_wire.specs.declared.body.Opened.TheVariants.{File, Directory}
 use Rattle.qx_fuse_wire.specs.declared.body.Reads.{Reads}
@@ -51,8 +52,21 @@ forget = line 2 (u64 then end) (λ lookups. Some (body.Forget lookups))
 abbrev pub get_attributes : Line
 get_attributes = line 3 (u32 then skip 4 (u64 then end)) (λ flags handle. Some (body.GetAttributes flags handle))
 
+-- SETATTR, from its times on, and from its mode on
+abbrev pub owner_form : Form
+owner_form = u32 then skip 4 (u32 then u32 then skip 4 end)
+
+abbrev pub times_form : Form
+times_form = u64 then u64 then u64 then u32 then u32 then u32 then owner_form
+
+abbrev pub set_times : (Times → Maker owner_form Body) → Maker times_form Body
+set_times made = λ access_seconds modify_seconds change_seconds access_nanoseconds modify_nanoseconds change_nanoseconds. made (record { access_seconds = access_seconds; modify_seconds = modify_seconds; change_seconds = change_seconds; access_nanoseconds = access_nanoseconds; modify_nanoseconds = modify_nanoseconds; change_nanoseconds = change_nanoseconds })
+
+abbrev pub set_owner : ℕ → ℕ → ℕ → ℕ → Times → Maker owner_form Body
+set_owner valid handle size lock_owner times = λ mode user group. Some (body.SetAttributes valid handle size lock_owner times mode user group)
+
 abbrev pub set_attributes : Line
-set_attributes = line 4 (u32 then skip 4 (u64 then u64 then u64 then u64 then u64 then u64 then u32 then u32 then u32 then u32 then skip 4 (u32 then u32 then skip 4 end))) (λ valid handle size lock_owner accessed modified changed accessed_nanoseconds modified_nanoseconds changed_nanoseconds mode user group. Some (body.SetAttributes valid handle size lock_owner accessed modified changed accessed_nanoseconds modified_nanoseconds changed_nanoseconds mode user group))
+set_attributes = line 4 (u32 then skip 4 (u64 then u64 then u64 then times_form)) (λ valid handle size lock_owner. set_times (set_owner valid handle size lock_owner))
 
 abbrev pub read_link : Line
 read_link = line 5 end (Some body.ReadLink)
@@ -121,12 +135,13 @@ file_system = line 17 end (Some body.FileSystem)
 abbrev pub flush : Line
 flush = line 25 (u64 then skip 8 (u64 then end)) (λ handle lock_owner. Some (body.Flush handle lock_owner))
 
--- what stands behind the version: a readahead and flags, and since 7.36 more flags and 44 bytes that say nothing
+-- flags of INIT since 7.36, and 44 bytes that say nothing; before, no bytes stand there
+abbrev pub more_flags : (ℕ → Body) → List ℕ → Option Body
+more_flags made bytes = if length bytes == 0 then Some (made 0) else read (u32 then skip 44 end) (λ flags. Some (made flags)) bytes
+
+-- what stands behind the version
 abbrev pub offer : ℕ → List ℕ → Option Body
-offer minor bytes =
-    if length bytes == 8
-    then read (u32 then u32 then end) (λ readahead flags. Some (body.Offer minor readahead flags 0)) bytes
-    else read (u32 then u32 then u32 then skip 44 end) (λ readahead flags more_flags. Some (body.Offer minor readahead flags more_flags)) bytes
+offer minor bytes = read (u32 then u32 then all) (λ readahead flags bytes. more_flags (λ more_flags. body.Offer minor readahead flags more_flags) bytes) bytes
 
 -- of another version nothing but that is read
 abbrev pub init : Line

@@ -1,9 +1,9 @@
 //! What each kind of body says.
 ghost use Rattle.std.specs.Prelude.{◌≡◌};
 ghost use Rattle.qx_fuse_wire.specs.Forms.{end, read};
-ghost use Rattle.qx_fuse_wire.specs.Table.{access, batch_forget, create, flush, forget, get_attributes, init, interrupt, link, lookup, make_directory, make_node, offer, open_line, poll, read_from, read_line, release, remove_directory, rename, rename_2, seek, set_attributes, symbolic_link, sync, unlink, write};
+ghost use Rattle.qx_fuse_wire.specs.Table.{access, batch_forget, create, flush, forget, get_attributes, init, interrupt, link, lookup, make_directory, make_node, more_flags, offer, open_line, owner_form, poll, read_from, read_line, release, remove_directory, rename, rename_2, seek, set_attributes, set_owner, set_times, symbolic_link, sync, times_form, unlink, write};
 
-use crate::body::{Body, Opened, Reads};
+use crate::body::{Body, Opened, Reads, Times};
 use crate::fields::{behind, name_at, text_at, u32_at, u64_at};
 use crate::forgets::Forgets;
 use qx_wire::BorrowedBytes;
@@ -51,12 +51,47 @@ pub fn set_attributes_at(body: &[u8]) -> Option<Body<'_>>
     let (handle, body) = u64_at(body)?;
     let (size, body) = u64_at(body)?;
     let (lock_owner, body) = u64_at(body)?;
+    set_times_at(valid, handle, size, lock_owner, body)
+}
+
+/// The same from its times on.
+fn set_times_at(
+    valid: u32,
+    handle: u64,
+    size: u64,
+    lock_owner: u64,
+    body: &[u8],
+) -> Option<Body<'_>>
+    ensures { result ≡ read times_form (set_times (set_owner valid handle size lock_owner)) body.now }
+{
     let (access_seconds, body) = u64_at(body)?;
     let (modify_seconds, body) = u64_at(body)?;
     let (change_seconds, body) = u64_at(body)?;
     let (access_nanoseconds, body) = u32_at(body)?;
     let (modify_nanoseconds, body) = u32_at(body)?;
     let (change_nanoseconds, body) = u32_at(body)?;
+    let times = Times {
+        access_seconds,
+        modify_seconds,
+        change_seconds,
+        access_nanoseconds,
+        modify_nanoseconds,
+        change_nanoseconds,
+    };
+    set_owner_at(valid, handle, size, lock_owner, times, body)
+}
+
+/// The same from its mode on.
+fn set_owner_at(
+    valid: u32,
+    handle: u64,
+    size: u64,
+    lock_owner: u64,
+    times: Times,
+    body: &[u8],
+) -> Option<Body<'_>>
+    ensures { result ≡ read owner_form (set_owner valid handle size lock_owner times) body.now }
+{
     let (mode, body) = u32_at(body)?;
     let body = behind(4, body)?;
     let (user, body) = u32_at(body)?;
@@ -69,12 +104,7 @@ pub fn set_attributes_at(body: &[u8]) -> Option<Body<'_>>
             handle,
             size,
             lock_owner,
-            access_seconds,
-            modify_seconds,
-            change_seconds,
-            access_nanoseconds,
-            modify_nanoseconds,
-            change_nanoseconds,
+            times,
             mode,
             user,
             group,
@@ -349,7 +379,14 @@ fn offer_at(minor: u32, bytes: &[u8]) -> Option<Body<'_>>
 {
     let (readahead, body) = u32_at(bytes)?;
     let (flags, body) = u32_at(body)?;
-    if bytes.len() == 8 {
+    more_flags_at(minor, readahead, flags, body)
+}
+
+/// The same from its further flags on, none where no bytes are left.
+fn more_flags_at(minor: u32, readahead: u32, flags: u32, bytes: &[u8]) -> Option<Body<'_>>
+    ensures { result ≡ more_flags (λ more_flags. Body.Offer minor readahead flags more_flags) bytes.now }
+{
+    if bytes.is_empty() {
         return Some(Body::Offer {
             minor,
             readahead,
@@ -357,7 +394,7 @@ fn offer_at(minor: u32, bytes: &[u8]) -> Option<Body<'_>>
             more_flags: 0,
         });
     }
-    let (more_flags, body) = u32_at(body)?;
+    let (more_flags, body) = u32_at(bytes)?;
     let body = behind(44, body)?;
     ended(
         body,

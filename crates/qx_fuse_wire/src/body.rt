@@ -35,6 +35,17 @@ pub enum Reads {
     Entries,
 }
 
+/// When a node was read, when its data were changed, and when its attributes were.
+#[derive(Clone, Copy, Debug, PartialEq, Eq)]
+pub struct Times {
+    pub access_seconds: u64,
+    pub modify_seconds: u64,
+    pub change_seconds: u64,
+    pub access_nanoseconds: u32,
+    pub modify_nanoseconds: u32,
+    pub change_nanoseconds: u32,
+}
+
 /// What the kernel asks for. The names beside are those of <linux/fuse.h>. Names and bytes stand in what was read. The front answers
 /// LINK and SYMLINK with EPERM, as a file system without links does, so they are known.
 #[derive(Debug, Drop)]
@@ -62,12 +73,7 @@ pub enum Body<'a> {
         handle: u64,
         size: u64,
         lock_owner: u64,
-        access_seconds: u64,
-        modify_seconds: u64,
-        change_seconds: u64,
-        access_nanoseconds: u32,
-        modify_nanoseconds: u32,
-        change_nanoseconds: u32,
+        times: Times,
         mode: u32,
         user: u32,
         group: u32,

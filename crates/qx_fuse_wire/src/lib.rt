@@ -12,10 +12,14 @@
 pub mod bodies;
 pub mod body;
 pub mod fields;
+pub mod errors;
 pub mod forgets;
 pub mod laws;
+pub mod numbers;
 pub mod reading;
+pub mod reply;
+pub mod writing;
 
-pub use body::{Body, Header, Meaning, Opened, Reads};
+pub use body::{Body, Header, Meaning, Opened, Reads, Times};
 pub use forgets::Forgets;
 pub use reading::meaning;
