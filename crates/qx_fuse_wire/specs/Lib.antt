@@ -1,4 +1,5 @@
 pub mod Forms
+pub mod Init
 pub mod Laws
 pub mod Meaning
 pub mod Replies

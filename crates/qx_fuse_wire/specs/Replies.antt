@@ -115,3 +115,17 @@ reply_bytes unique it = header_bytes (16 + length (body_bytes it)) (error_number
 -- who polls under that number may ask again: a header with the number of the notification, 1, in place of an error, and no request
 unfoldable pub wake_bytes : ℕ → List ℕ
 wake_bytes waiter = numbers_bytes (Word 24 ∷ Word 1 ∷ Long 0 ∷ Long waiter ∷ [])
+
+-- ---- names of a directory
+
+-- up to a multiple of 8
+abbrev pub padding : ℕ → ℕ
+padding length = (8 - length % 8) % 8
+
+-- a node, where the list goes on, the length of the name, the kind of the node, and the name
+unfoldable pub name_bytes : ℕ → ℕ → ℕ → List ℕ → List ℕ
+name_bytes node next kind name = numbers_bytes (Long node ∷ Long next ∷ Word (length name) ∷ Word kind ∷ []) ++ (name ++ replicate (padding (length name)) 0)
+
+-- the same behind what a look-up tells
+unfoldable pub full_name_bytes : Entry → ℕ → ℕ → List ℕ → List ℕ
+full_name_bytes entry next kind name = entry_bytes entry ++ name_bytes entry.attributes.node next kind name
