@@ -1,3 +1,5 @@
+pub mod FormLemmas
+pub mod MeaningLemmas
 pub mod NumberLemmas
 pub mod PairLemmas
 pub mod ReplyLemmas

@@ -1,13 +1,23 @@
 -- Bodies of requests, each described once: its fields in their order, how they are read, and how they are spelled.
 use Rattle.std.specs.Prelude.{◌≡◌, ℕ, zero, suc, ◌+◌, ◌*◌, ◌<◌, ◌^◌, Bool, ◌&&◌, ◌==◌, not, nat_lt, if◌then◌else◌, List, [], ◌∷◌, ◌++◌, length, take, drop, Option, Some, None, IsTrue, position}
-use Rattle.std.specs.Int.{Width, w64, byte_len, from_le_bytes, to_le_bytes}
+use Rattle.std.specs.Int.{Width, w16, w32, w64, byte_len, from_le_bytes, to_le_bytes}
 use Rattle.std.specs.List.{list_all}
 use Rattle.qx_types.specs.Optional.{◌>>=◌}
 use Rattle.qx_wire.specs.Reading.{number_at}
 
+pub data Size : Type 0 where
+  two_bytes : Size
+  four_bytes : Size
+  eight_bytes : Size
+
+abbrev pub width : Size → Width
+width two_bytes = w16
+width four_bytes = w32
+width eight_bytes = w64
+
 -- a number, its lowest byte first; a name in a directory, and any text, with a zero byte behind them
 pub data Field : Type 0 where
-  number : Width → Field
+  number : Size → Field
   a_name : Field
   a_text : Field
 
@@ -20,7 +30,7 @@ pub data Form : Type 0 where
   ◌then◌ : Field → Form → Form
 
 abbrev pub Value : Field → Type 0
-Value (number width) = ℕ
+Value (number size) = ℕ
 Value a_name = List ℕ
 Value a_text = List ℕ
 
@@ -62,7 +72,7 @@ name_at bytes = do
   if has_no_slash found.0 then Some found else None
 
 abbrev pub field_at : (field : Field) → List ℕ → Option (Value field × List ℕ)
-field_at (number width) bytes = number_at width bytes
+field_at (number size) bytes = number_at (width size) bytes
 field_at a_name bytes = name_at bytes
 field_at a_text bytes = text_at bytes
 
@@ -79,7 +89,7 @@ read (field then form) made bytes = field_at field bytes >>= λ found. read form
 -- ---- spelling
 
 abbrev pub field_bytes : (field : Field) → Value field → List ℕ
-field_bytes (number width) n = to_le_bytes width n
+field_bytes (number size) n = to_le_bytes (width size) n
 field_bytes a_name bytes = bytes ++ 0 ∷ []
 field_bytes a_text bytes = bytes ++ 0 ∷ []
 
@@ -95,7 +105,7 @@ is_text text = nat_lt 0 (length text) && list_all (λ byte. not (byte == 0)) tex
 
 -- a number that fits its width; a name without '/'
 abbrev pub Fits : (field : Field) → Value field → Type 0
-Fits (number width) n = n < 2 ^ (8 * byte_len width)
+Fits (number size) n = n < 2 ^ (8 * byte_len (width size))
 Fits a_name bytes = IsTrue (is_text bytes && has_no_slash bytes)
 Fits a_text bytes = IsTrue (is_text bytes)
 

@@ -1,6 +1,5 @@
 -- The table of requests: what stands in which of them, as <linux/fuse.h> has it.
 use Rattle.std.specs.Prelude.{◌≡◌, ℕ, ◌*◌, ◌+◌, Bool, ◌&&◌, ◌==◌, nat_le, if◌then◌else◌, List, [], ◌∷◌, length, Option, Some, None}
-use Rattle.std.specs.Int.{w16, w32, w64}
 use Rattle.qx_fuse_wire.specs.declared.body.Header.{Header}
 use Rattle.qx_fuse_wire.specs.declared.body.Body.{Body}
 use Rattle.qx_fuse_wire.specs.declared.body.Body.TheVariants as body
@@ -9,25 +8,32 @@ use Rattle.qx_fuse_wire.specs.declared.body.Opened.{Opened}
 use Rattle.qx_fuse_wire.specs.declared.body.Opened.TheVariants.{File, Directory}
 use Rattle.qx_fuse_wire.specs.declared.body.Reads.{Reads}
 use Rattle.qx_fuse_wire.specs.declared.body.Reads.TheVariants as reads
-use Rattle.qx_fuse_wire.specs.Forms.{Field, Form, Maker, end, all, skip, ◌then◌, number, a_name, a_text, pairs, read}
+use Rattle.qx_fuse_wire.specs.Forms.{Field, Form, Maker, two_bytes, four_bytes, eight_bytes, end, all, skip, ◌then◌, number, a_name, a_text, pairs, read}
 
 abbrev pub u16 : Field
-u16 = number w16
+u16 = number two_bytes
 
 abbrev pub u32 : Field
-u32 = number w32
+u32 = number four_bytes
 
 abbrev pub u64 : Field
-u64 = number w64
+u64 = number eight_bytes
 
 -- ---- the header
 
--- length, opcode, unique, node, user, group, process, extensions, and two bytes that say nothing
+-- user, group, process, extensions, and two bytes that say nothing
+abbrev pub caller_form : Form
+caller_form = u32 then u32 then u32 then u16 then skip 2 all
+
+abbrev pub caller_made : ℕ → ℕ → ℕ → ℕ → Maker caller_form (Header × List ℕ)
+caller_made length opcode unique node = λ user group process extensions rest. Some (record { length = length; opcode = opcode; unique = unique; node = node; user = user; group = group; process = process; extensions = extensions }, rest)
+
+-- length, opcode, unique, node and those
 abbrev pub header_form : Form
-header_form = u32 then u32 then u64 then u64 then u32 then u32 then u32 then u16 then skip 2 all
+header_form = u32 then u32 then u64 then u64 then caller_form
 
 abbrev pub header_made : Maker header_form (Header × List ℕ)
-header_made = λ length opcode unique node user group process extensions rest. Some (record { length = length; opcode = opcode; unique = unique; node = node; user = user; group = group; process = process; extensions = extensions }, rest)
+header_made = caller_made
 
 -- ---- the lines
 
@@ -122,12 +128,22 @@ release opened = line (release_opcode opened) (u64 then u32 then u32 then u64 th
 abbrev pub sync : Opened → Line
 sync opened = line (sync_opcode opened) (u64 then u32 then skip 4 end) (λ handle flags. Some (body.Sync opened handle flags))
 
+-- READ and WRITE, from the owner of a lock on
+abbrev pub lock_form : Form → Form
+lock_form form = u64 then u32 then skip 4 form
+
+abbrev pub read_made : Reads → ℕ → ℕ → ℕ → ℕ → Maker (lock_form end) Body
+read_made what handle offset size read_flags = λ lock_owner flags. Some (body.Read what handle offset size read_flags lock_owner flags)
+
 abbrev pub read_from : Reads → Line
-read_from what = line (read_opcode what) (u64 then u64 then u32 then u32 then u64 then u32 then skip 4 end) (λ handle offset size read_flags lock_owner flags. Some (body.Read what handle offset size read_flags lock_owner flags))
+read_from what = line (read_opcode what) (u64 then u64 then u32 then u32 then lock_form end) (read_made what)
 
 -- there are as many bytes as the size says
+abbrev pub write_made : ℕ → ℕ → ℕ → ℕ → Maker (lock_form all) Body
+write_made handle offset size write_flags = λ lock_owner flags bytes. if length bytes == size then Some (body.Write handle offset write_flags lock_owner flags bytes) else None
+
 abbrev pub write : Line
-write = line 16 (u64 then u64 then u32 then u32 then u64 then u32 then skip 4 all) (λ handle offset size write_flags lock_owner flags bytes. if length bytes == size then Some (body.Write handle offset write_flags lock_owner flags bytes) else None)
+write = line 16 (u64 then u64 then u32 then u32 then lock_form all) write_made
 
 abbrev pub file_system : Line
 file_system = line 17 end (Some body.FileSystem)

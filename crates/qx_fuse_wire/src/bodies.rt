@@ -1,7 +1,7 @@
 //! What each kind of body says.
 ghost use Rattle.std.specs.Prelude.{◌≡◌};
-ghost use Rattle.qx_fuse_wire.specs.Forms.{end, read};
-ghost use Rattle.qx_fuse_wire.specs.Table.{access, batch_forget, create, flush, forget, get_attributes, init, interrupt, link, lookup, make_directory, make_node, more_flags, offer, open_line, owner_form, poll, read_from, read_line, release, remove_directory, rename, rename_2, seek, set_attributes, set_owner, set_times, symbolic_link, sync, times_form, unlink, write};
+ghost use Rattle.qx_fuse_wire.specs.Forms.{all, end, read};
+ghost use Rattle.qx_fuse_wire.specs.Table.{access, batch_forget, create, flush, forget, get_attributes, init, interrupt, link, lock_form, lookup, make_directory, make_node, more_flags, offer, open_line, owner_form, poll, read_from, read_line, read_made, release, remove_directory, rename, rename_2, seek, set_attributes, set_owner, set_times, symbolic_link, sync, times_form, unlink, write, write_made};
 
 use crate::body::{Body, Opened, Reads, Times};
 use crate::fields::{behind, name_at, text_at, u32_at, u64_at};
@@ -271,6 +271,20 @@ pub fn read_at(reads: Reads, body: &[u8]) -> Option<Body<'_>>
     let (offset, body) = u64_at(body)?;
     let (size, body) = u32_at(body)?;
     let (read_flags, body) = u32_at(body)?;
+    read_lock_at(reads, handle, offset, size, read_flags, body)
+}
+
+/// The same from the owner of a lock on.
+fn read_lock_at(
+    reads: Reads,
+    handle: u64,
+    offset: u64,
+    size: u32,
+    read_flags: u32,
+    body: &[u8],
+) -> Option<Body<'_>>
+    ensures { result ≡ read (lock_form end) (read_made reads handle offset size read_flags) body.now }
+{
     let (lock_owner, body) = u64_at(body)?;
     let (flags, body) = u32_at(body)?;
     let body = behind(4, body)?;
@@ -296,6 +310,19 @@ pub fn write_at(body: &[u8]) -> Option<Body<'_>>
     let (offset, body) = u64_at(body)?;
     let (size, body) = u32_at(body)?;
     let (write_flags, body) = u32_at(body)?;
+    write_lock_at(handle, offset, size, write_flags, body)
+}
+
+/// The same from the owner of a lock on.
+fn write_lock_at(
+    handle: u64,
+    offset: u64,
+    size: u32,
+    write_flags: u32,
+    body: &[u8],
+) -> Option<Body<'_>>
+    ensures { result ≡ read (lock_form all) (write_made handle offset size write_flags) body.now }
+{
     let (lock_owner, body) = u64_at(body)?;
     let (flags, body) = u32_at(body)?;
     let body = behind(4, body)?;

@@ -2,7 +2,7 @@ use crate::forgets::Forgets;
 use qx_wire::BorrowedBytes;
 
 /// What stands before each body. The kernel answers to `unique`.
-#[derive(Clone, Copy, Debug, PartialEq, Eq)]
+#[derive(Clone, Copy, Debug)]
 pub struct Header {
     /// How many bytes the request has, with this header.
     pub length: u32,
@@ -36,7 +36,7 @@ pub enum Reads {
 }
 
 /// When a node was read, when its data were changed, and when its attributes were.
-#[derive(Clone, Copy, Debug, PartialEq, Eq)]
+#[derive(Clone, Copy, Debug)]
 pub struct Times {
     pub access_seconds: u64,
     pub modify_seconds: u64,

@@ -28,12 +28,7 @@ pub fn init_reply(body: &Body<'_>, wanted: &Wanted) -> Option<Reply<'static>>
             flags,
             more_flags,
             ..
-        } => Some(Reply::Agreed(agreed(
-            *readahead,
-            *flags,
-            *more_flags,
-            wanted,
-        ))),
+        } => Some(Reply::Agreed(agreed(*readahead, *flags, *more_flags, wanted))),
         Body::OtherVersion { major, .. } if *major > 7 => {
             let nothing = Wanted {
                 readahead: 0,

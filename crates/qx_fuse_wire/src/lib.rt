@@ -11,8 +11,8 @@
 
 pub mod bodies;
 pub mod body;
-pub mod fields;
 pub mod errors;
+pub mod fields;
 pub mod forgets;
 pub mod init;
 pub mod laws;

@@ -1,6 +1,8 @@
 //! What bytes mean as a request.
 ghost use Rattle.std.specs.Prelude.{◌≡◌};
 ghost use Rattle.std.specs.Option.{option_map};
+ghost use Rattle.qx_fuse_wire.specs.Forms.{read};
+ghost use Rattle.qx_fuse_wire.specs.Table.{caller_form, caller_made};
 ghost use Rattle.qx_fuse_wire.specs.Meaning.{body_meaning, header_at, known_or_malformed, meaning};
 
 use crate::bodies::{
@@ -21,7 +23,20 @@ pub fn header_at(bytes: &[u8]) -> Option<(Header, &[u8])>
     let (opcode, rest) = u32_at(rest)?;
     let (unique, rest) = u64_at(rest)?;
     let (node, rest) = u64_at(rest)?;
-    let (user, rest) = u32_at(rest)?;
+    caller_at(length, opcode, unique, node, rest)
+}
+
+/// The same from the caller on.
+fn caller_at(
+    length: u32,
+    opcode: u32,
+    unique: u64,
+    node: u64,
+    bytes: &[u8],
+) -> Option<(Header, &[u8])>
+    ensures { option_map (λ x. (x.0, x.1.now)) result ≡ read caller_form (caller_made length opcode unique node) bytes.now }
+{
+    let (user, rest) = u32_at(bytes)?;
     let (group, rest) = u32_at(rest)?;
     let (process, rest) = u32_at(rest)?;
     let (extensions, rest) = u16_at(rest)?;

@@ -84,7 +84,10 @@ pub enum Reply<'a> {
         attributes: Attributes,
     },
     /// OPEN, OPENDIR.
-    Opened { handle: u64, open_flags: u32 },
+    Opened {
+        handle: u64,
+        open_flags: u32,
+    },
     /// CREATE.
     Created {
         entry: Entry,
@@ -94,13 +97,19 @@ pub enum Reply<'a> {
     /// READ, READDIR, READDIRPLUS.
     Bytes(BorrowedBytes<'a>),
     /// WRITE.
-    Written { size: u32 },
+    Written {
+        size: u32,
+    },
     /// STATFS.
     FileSystem(FileSystem),
     /// INIT.
     Agreed(Agreed),
     /// LSEEK.
-    Offset { offset: u64 },
+    Offset {
+        offset: u64,
+    },
     /// POLL.
-    Events { events: u32 },
+    Events {
+        events: u32,
+    },
 }
