@@ -1,16 +1,15 @@
 -- What is spelled by a form is read again, and what is read is spelled: once for all forms.
-use Rattle.std.proofs.Common.{◌≡◌, ℕ, suc, ◌+◌, ◌*◌, ◌^◌, ◌<◌, ◌≤◌, Bool, true, false, cond, not, ◌&&◌, eqb, ltb, List, [], ◌∷◌, ◌++◌, length, get_or, take, drop, Option, Some, None, refl, sym, ap, subst, ◌∙◌, arith, append_assoc, length-append, drop-cons}
+use Rattle.std.proofs.Common.{◌≡◌, ℕ, suc, ◌+◌, ◌*◌, ◌^◌, ◌<◌, ◌≤◌, Bool, true, false, cond, not, eqb, ltb, List, [], ◌∷◌, ◌++◌, length, get_or, take, drop, Option, Some, None, refl, sym, ap, subst, ◌∙◌, arith, append_assoc, length-append, drop-cons}
 use Rattle.std.specs.Prelude.{position}
-use Rattle.std.specs.Int.{byte_len, to_le_bytes}
+use Rattle.std.specs.Int.{byte_len}
 use Rattle.std.specs.List.{list_all, position_or_len}
 use Rattle.std.proofs.Math.Seq.{get_or-append_seam}
 use Rattle.std.proofs.lemmas.Bool.{and_parts, and_from, ltb-false, ltb-true, lt-ltb, le-ltb, eqb-true}
-use Rattle.std.proofs.lemmas.List.{append-nil, take-append-drop, nil_from_length, drop_at, take_at, get_or_append_left, get_or-append-add, get_or-drop, get_or-take, length-take-le}
+use Rattle.std.proofs.lemmas.List.{take-append-drop, nil_from_length, drop_at, take_at, get_or_append_left, get_or-append-add, get_or-drop, get_or-take, length-take-le}
 use Rattle.std.proofs.lemmas.List.Quantifiers.{position-Some}
 use Rattle.std.proofs.lemmas.List.Sums.{AllPass-from_list_all, list_all-from_AllPass, position_or_len_is}
 use Rattle.std.proofs.lemmas.Option.{same_Some}
 use Rattle.qx_types.specs.Optional.{◌>>=◌}
-use Rattle.qx_wire.specs.Reading.{number_at}
 use Rattle.qx_wire.proofs.FieldLemmas.{IsBytes, IsWide, bind_some, none_else_some, some_else_none, number_again, peel, wide16, wide32, wide64}
 use Rattle.qx_fuse_wire.specs.Forms.{CanBe, Field, Fits, Form, Maker, Size, Value, Values, a_name, a_text, all, behind, eight_bytes, end, field_at, field_bytes, four_bytes, has_no_slash, is_text, made_of, name_at, number, read, skip, spelled, text_at, two_bytes, width, ◌then◌}
 

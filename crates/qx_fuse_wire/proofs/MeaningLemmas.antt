@@ -1,12 +1,11 @@
 -- Bytes mean a request exactly if they spell it.
-use Rattle.std.proofs.Common.{◌≡◌, ℕ, ◌+◌, ◌-◌, ◌<◌, ◌≤◌, Bool, true, false, cond, ◌&&◌, ◌⊎◌, inl, inr, eqb, leb, List, [], ◌∷◌, ◌++◌, length, take, drop, Option, Some, None, refl, sym, ap, subst, ◌∙◌, arith, length-append, length-drop}
+use Rattle.std.proofs.Common.{◌≡◌, ℕ, ◌-◌, ◌≤◌, Bool, true, false, cond, ◌&&◌, ◌⊎◌, inl, inr, eqb, leb, List, [], ◌∷◌, ◌++◌, length, take, drop, Option, Some, None, refl, sym, ap, subst, ◌∙◌, arith, length-append, length-drop}
 use Rattle.std.proofs.lemmas.Bool.{and_parts, and_from, eqb-true, eq-eqb, leb-true, le-leb}
 use Rattle.std.proofs.lemmas.List.{take-append-drop, take_at}
 use Rattle.std.proofs.lemmas.Option.{same_Some}
 use Rattle.qx_wire.proofs.FieldLemmas.{IsBytes, IsBytes-take}
 use Rattle.qx_fuse_wire.specs.declared.body.Header.{Header}
 use Rattle.qx_fuse_wire.specs.declared.body.Body.{Body}
-use Rattle.qx_fuse_wire.specs.declared.body.Meaning.{Meaning}
 use Rattle.qx_fuse_wire.specs.declared.body.Meaning.TheVariants.{Known, Malformed}
 use Rattle.qx_fuse_wire.specs.Forms.{read, spelled}
 use Rattle.qx_fuse_wire.specs.Laws.{Spells, line_for}

@@ -1,5 +1,5 @@
 -- Numbers, one behind the other.
-use Rattle.std.proofs.Common.{◌≡◌, ℕ, suc, ◌<◌, ◌+◌, List, ◌∷◌, ◌++◌, get_or, drop, length, ap, drop-cons, arith}
+use Rattle.std.proofs.Common.{◌≡◌, ℕ, suc, ◌<◌, ◌+◌, List, ◌++◌, get_or, drop, length, ap, drop-cons, arith}
 use Rattle.qx_fuse_wire.specs.declared.numbers.Number.{Number}
 use Rattle.qx_fuse_wire.specs.Replies.{number_bytes, numbers_bytes}
 

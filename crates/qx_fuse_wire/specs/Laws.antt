@@ -4,7 +4,7 @@ use Rattle.qx_wire.specs.Laws.{AreBytes}
 use Rattle.qx_fuse_wire.specs.declared.body.Header.{Header}
 use Rattle.qx_fuse_wire.specs.declared.body.Body.{Body}
 use Rattle.qx_fuse_wire.specs.declared.body.Meaning.TheVariants.{Known}
-use Rattle.qx_fuse_wire.specs.Forms.{CanBe, Form, Maker, Values, made_of, read, spelled}
+use Rattle.qx_fuse_wire.specs.Forms.{CanBe, Form, Maker, Values, made_of, spelled}
 use Rattle.qx_fuse_wire.specs.Table.{Line, header_form, header_made, table}
 use Rattle.qx_fuse_wire.specs.Meaning.{extension_length, meaning}
 

@@ -1,5 +1,5 @@
 -- The table of requests: what stands in which of them, as <linux/fuse.h> has it.
-use Rattle.std.specs.Prelude.{◌≡◌, ℕ, ◌*◌, ◌+◌, Bool, ◌&&◌, ◌==◌, nat_le, if◌then◌else◌, List, [], ◌∷◌, length, Option, Some, None}
+use Rattle.std.specs.Prelude.{ℕ, ◌*◌, ◌&&◌, ◌==◌, nat_le, if◌then◌else◌, List, [], ◌∷◌, length, Option, Some, None}
 use Rattle.qx_fuse_wire.specs.declared.body.Header.{Header}
 use Rattle.qx_fuse_wire.specs.declared.body.Body.{Body}
 use Rattle.qx_fuse_wire.specs.declared.body.Body.TheVariants as body

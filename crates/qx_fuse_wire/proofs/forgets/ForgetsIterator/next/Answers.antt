@@ -1,4 +1,4 @@
-use Rattle.std.proofs.Common.{rules, ◌≡◌, ◌*◌, ◌+◌, length, arith}
+use Rattle.std.proofs.Common.{rules, ◌≡◌, ◌+◌, length, arith}
 use Rattle.qx_fuse_wire.proofs.PairLemmas.{number_left}
 use Rattle.qx_fuse_wire.proofs.forgets.ForgetsIterator.next.Goals as goal
 
