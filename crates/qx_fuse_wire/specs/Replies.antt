@@ -99,6 +99,11 @@ body_bytes (reply.Agreed agreed) = agreed_bytes agreed
 body_bytes (reply.Offset offset) = numbers_bytes (Long offset ∷ [])
 body_bytes (reply.Events events) = numbers_bytes (Word events ∷ Word 0 ∷ [])
 
+-- how many bytes were read, where the reply has those
+abbrev pub bytes_read : Reply → ℕ
+bytes_read (reply.Bytes bytes) = length bytes
+bytes_read other = 0
+
 -- in two's complement
 abbrev pub minus : ℕ → ℕ
 minus n = (2 ^ 32 - n) % 2 ^ 32

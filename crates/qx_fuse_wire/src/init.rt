@@ -1,5 +1,6 @@
-ghost use Rattle.std.specs.Prelude.{◌≡◌};
+ghost use Rattle.std.specs.Prelude.{◌≡◌, IfSome};
 ghost use Rattle.qx_fuse_wire.specs.Init.{agreed, init_reply};
+ghost use Rattle.qx_fuse_wire.specs.Replies.{bytes_read};
 
 use crate::body::Body;
 use crate::reply::{Agreed, Failure, Reply};
@@ -21,6 +22,7 @@ pub struct Wanted {
 /// protocol is told 7.31, with nothing agreed yet, and asks again.
 pub fn init_reply(body: &Body<'_>, wanted: &Wanted) -> Option<Reply<'static>>
     ensures reply { result ≡ init_reply body.now wanted.now }
+    ensures short { IfSome result (λ reply. bytes_read reply ≡ 0) }
 {
     match body {
         Body::Offer {

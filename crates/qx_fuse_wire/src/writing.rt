@@ -1,6 +1,6 @@
 //! Replies and notifications as bytes, each behind what stands in the caller's vector.
 ghost use Rattle.std.specs.Prelude.{◌≡◌, ◌≤◌, ◌<◌, ◌+◌, ◌++◌, ◌^◌, OnErr, OnOk, length, vec_len, vec_capacity};
-ghost use Rattle.qx_fuse_wire.specs.Replies.{agreed_bytes, attributes_bytes, body_bytes, entry_bytes, error_number, file_system_bytes, header_bytes, opened_bytes, reply_bytes, wake_bytes};
+ghost use Rattle.qx_fuse_wire.specs.Replies.{agreed_bytes, attributes_bytes, body_bytes, bytes_read, entry_bytes, error_number, file_system_bytes, header_bytes, opened_bytes, reply_bytes, wake_bytes};
 
 use crate::errors::failure_number;
 use crate::numbers::Number::{Half, Long, Word};
@@ -122,6 +122,7 @@ fn put_agreed(out: &mut Vec<u8>, it: &Agreed)
 #[tactic(auto, using(crate::proofs::ReplyLemmas::agreed_length, crate::proofs::ReplyLemmas::attributes_length, crate::proofs::ReplyLemmas::created_length, crate::proofs::ReplyLemmas::entry_length, crate::proofs::ReplyLemmas::file_system_length))]
 fn body_length(reply: &Reply<'_>) -> usize
     ensures length { result ≡ length (body_bytes reply.now) }
+    ensures few { result ≤ bytes_read reply.now + 144 }
 {
     match reply {
         Reply::Done | Reply::Failed(_) => 0,
@@ -184,7 +185,7 @@ fn put_body(out: &mut Vec<u8>, reply: &Reply<'_>)
 /// A reply to the request of that number. Room is asked for first, so that nothing is changed where memory is short.
 #[tactic(auto, unfolding(crate::specs::Replies::reply_bytes))]
 pub fn put_reply(out: &mut Vec<u8>, unique: u64, reply: &Reply<'_>) -> Result<(), AllocError>
-    requires short { 16 + length (body_bytes reply.now) < 2 ^ 32 }
+    requires short { bytes_read reply.now < 2 ^ 31 }
     ensures reply { OnOk result (out.new.items ≡ out.old.items ++ reply_bytes unique reply.now) }
     ensures err { OnErr result (out.new.items ≡ out.old.items) }
 {

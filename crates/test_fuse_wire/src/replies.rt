@@ -1,5 +1,8 @@
 //! Each reply once, beside bytes that were put together by hand from <linux/fuse.h>.
 
+ghost use Rattle.std.specs.Prelude.{◌<◌, ◌^◌};
+ghost use Rattle.qx_fuse_wire.specs.Replies.{bytes_read};
+
 use crate::requests::from_hex;
 use qx_base::Errno;
 use qx_fuse_wire::init::{Wanted, init_reply};
@@ -76,7 +79,9 @@ fn agreed() -> Agreed {
 }
 
 /// Whether the reply to the request 513 has these bytes, behind one that is there.
-fn is_written(rt: &HostRuntime, reply: &Reply<'_>, digits: &str) -> Result<bool, Fail> {
+fn is_written(rt: &HostRuntime, reply: &Reply<'_>, digits: &str) -> Result<bool, Fail>
+    requires short { bytes_read reply.now < 2 ^ 31 }
+{
     let mut out = Vec::new(rt.alloc());
     out.push(9)?;
     put_reply(&mut out, 513, reply)?;
