@@ -110,18 +110,18 @@ impl Bench {
     }
 }
 
-/// For reading and writing.
-fn both_ways() -> OFlags {
-    OFlags::READ | OFlags::WRITE
+/// For reading and writing, and more.
+fn both_ways(more: OFlags) -> OFlags {
+    OFlags(OFlags::READ.0 | OFlags::WRITE.0 | more.0)
 }
 
 /// Bytes on both sides of a block's edge, a truncation, and a byte behind a gap; how many blocks were there after each.
 fn come_and_go(rt: &impl Abort, bench: &mut Bench) -> Result<[usize; 3], AllocError> {
-    let first = bench.open(both_ways() | OFlags::CREAT)?;
+    let first = bench.open(both_ways(OFlags::CREAT))?;
     assert!(rt; bench.write(rt, first, 511, b"ab")? == Ok(2));
     let written = bench.blocks();
     assert!(rt; bench.reads(first, 510, b"\0ab"));
-    let second = bench.open(both_ways() | OFlags::TRUNC)?;
+    let second = bench.open(both_ways(OFlags::TRUNC))?;
     let truncated = bench.blocks();
     assert!(rt; bench.write(rt, second, 600, b"c")? == Ok(1));
     assert!(rt; bench.reads(second, 598, b"\0\0c"));

@@ -7,8 +7,8 @@ use qx_lists::Table;
 use qx_machine::{Attribute, Kind};
 use qx_paths::{Mount, Mounts, read_path};
 use qx_types::{
-    Answer, Bytes, Config, LimitName, Limits, Manager, MessageBytes, NoMemory, OFlags, OutOfRange,
-    Outcome, Prio, User, UserLimits,
+    Answer, Bytes, Config, LimitName, Limits, Manager, MessageBytes, NoMemory, OFlags, Outcome,
+    Prio, User, UserLimits,
 };
 use qx_wire::{Message, Rest, encode, in_ranges};
 use std::alloc::{AllocError, Global};
@@ -107,24 +107,24 @@ fn is_of_ann_and_bob(config: &Config) -> bool {
 
 /// Whether ceilings are set from 1 on for users who are there, the last one of a user holds, and all others stay.
 fn sets_ceilings(config: &mut Config) -> bool {
-    config.set_ceiling(User(1), Prio(0)) == Err(OutOfRange)
-        && config.set_ceiling(User(0), Prio(1)) == Err(OutOfRange)
-        && config.set_ceiling(User(3), Prio(1)) == Err(OutOfRange)
+    config.set_ceiling(User(1), Prio(0)).is_err()
+        && config.set_ceiling(User(0), Prio(1)).is_err()
+        && config.set_ceiling(User(3), Prio(1)).is_err()
         && config.limits(User(1)).ceiling() == Prio(63)
-        && config.set_ceiling(User(2), Prio(1)) == Ok(())
-        && config.set_ceiling(User(2), Prio(255)) == Ok(())
+        && config.set_ceiling(User(2), Prio(1)).is_ok()
+        && config.set_ceiling(User(2), Prio(255)).is_ok()
         && config.limits(User(1)).ceiling() == Prio(63)
         && config.limits(User(2)).ceiling() == Prio(255)
 }
 
 /// Whether the priorities of disconnect pulses are set so, and ceilings stay.
 fn sets_disconnect_prios(config: &mut Config) -> bool {
-    config.set_disconnect_prio(User(1), Prio(0)) == Err(OutOfRange)
-        && config.set_disconnect_prio(User(0), Prio(1)) == Err(OutOfRange)
-        && config.set_disconnect_prio(User(3), Prio(1)) == Err(OutOfRange)
+    config.set_disconnect_prio(User(1), Prio(0)).is_err()
+        && config.set_disconnect_prio(User(0), Prio(1)).is_err()
+        && config.set_disconnect_prio(User(3), Prio(1)).is_err()
         && config.limits(User(1)).disconnect_prio() == Prio(255)
-        && config.set_disconnect_prio(User(2), Prio(255)) == Ok(())
-        && config.set_disconnect_prio(User(2), Prio(1)) == Ok(())
+        && config.set_disconnect_prio(User(2), Prio(255)).is_ok()
+        && config.set_disconnect_prio(User(2), Prio(1)).is_ok()
         && config.limits(User(1)).disconnect_prio() == Prio(255)
         && config.limits(User(2)).disconnect_prio() == Prio(1)
         && config.limits(User(2)).ceiling() == Prio(255)
@@ -156,14 +156,14 @@ fn sets_limits(config: &mut Config) -> bool {
 /// another user stays, as do the priorities.
 fn sets_limit(config: &mut Config, name: LimitName) -> bool {
     let most = name.most();
-    config.set_limit(User(1), name, 0) == Err(OutOfRange)
-        && config.set_limit(User(1), name, most + 1) == Err(OutOfRange)
-        && config.set_limit(User(0), name, 1) == Err(OutOfRange)
-        && config.set_limit(User(3), name, 1) == Err(OutOfRange)
+    config.set_limit(User(1), name, 0).is_err()
+        && config.set_limit(User(1), name, most + 1).is_err()
+        && config.set_limit(User(0), name, 1).is_err()
+        && config.set_limit(User(3), name, 1).is_err()
         && config.limits(User(1)).get(name) == most
-        && config.set_limit(User(2), name, 1) == Ok(())
+        && config.set_limit(User(2), name, 1).is_ok()
         && config.limits(User(2)).get(name) == 1
-        && config.set_limit(User(2), name, most) == Ok(())
+        && config.set_limit(User(2), name, most).is_ok()
         && config.limits(User(2)).get(name) == most
         && config.limits(User(1)).get(name) == most
         && config.limits(User(2)).ceiling() == Prio(255)

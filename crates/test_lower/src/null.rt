@@ -88,12 +88,6 @@ const MESSAGES: [(Over, Ask, Given); 12] = [
     (Over::Existing(THREE), Ask::Read, Err(Errno::EBADF)),
 ];
 
-/// A reply without bytes.
-fn replied(given: (u64, Effect)) -> (Done, usize) {
-    let (status, effect) = given;
-    (Done::Reply { status, effect }, 0)
-}
-
 /// The message that asks so.
 fn message(ask: Ask) -> Message<'static> {
     match ask {
@@ -192,7 +186,10 @@ impl Bench {
             &mut self.reply,
             &mut self.room,
         )?;
-        Ok(given.map(|done| (done, self.reply.as_slice().len())))
+        Ok(match given {
+            Ok(done) => Ok((done, self.reply.as_slice().len())),
+            Err(error) => Err(error),
+        })
     }
 }
 
@@ -209,10 +206,11 @@ fn what_is_written_is_gone(rt: HostRuntime) -> Result<(), Fail> {
     let mut bench = Bench::new(rt.alloc())?;
     assert!(rt; is_open_refused(&rt, rt.alloc(), &mut bench)?);
     for (over, ask, given) in MESSAGES {
-        assert!(rt;
-            bench.served(&rt, over, ask) == Ok(given.map(replied)),
-            "{ask:?}"
-        );
+        let wanted = match given {
+            Ok((status, effect)) => Ok((Done::Reply { status, effect }, 0)),
+            Err(error) => Err(error),
+        };
+        assert!(rt; bench.served(&rt, over, ask) == Ok(wanted), "{ask:?}");
     }
     Ok(())
 }
