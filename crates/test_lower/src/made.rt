@@ -30,7 +30,7 @@ pub enum Thing {
 }
 
 /// All of them.
-pub const THINGS: [Thing; 11] = [
+pub const THINGS: &[Thing] = &[
     Thing::Text,
     Thing::Received,
     Thing::Names,
@@ -131,7 +131,7 @@ fn sets_disconnect_prios(config: &mut Config) -> bool {
 }
 
 /// The names of all limits.
-const NAMES: [LimitName; 9] = [
+const NAMES: &[LimitName] = &[
     LimitName::Processes,
     LimitName::Connections,
     LimitName::Servers,
@@ -147,7 +147,7 @@ const NAMES: [LimitName; 9] = [
 fn sets_limits(config: &mut Config) -> bool {
     let mut is_good = true;
     for name in NAMES {
-        is_good = sets_limit(config, name) && is_good;
+        is_good = sets_limit(config, *name) && is_good;
     }
     is_good
 }

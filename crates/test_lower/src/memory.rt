@@ -8,7 +8,7 @@ use test_all_memory::{at_last, take_all_memory};
 #[test]
 fn all_is_made_with_memory(rt: HostRuntime) -> Result<(), Fail> {
     for thing in THINGS {
-        assert!(rt; is_made(rt.alloc(), thing) == Ok(true), "{thing:?}");
+        assert!(rt; is_made(rt.alloc(), *thing) == Ok(true), "{thing:?}");
     }
     Ok(())
 }
@@ -22,7 +22,7 @@ fn is_made_at_last(alloc: Global, thing: Thing) -> Result<bool, AllocError> {
 #[test]
 fn each_request_is_refused_in_turn(rt: HostRuntime) -> Result<(), Fail> {
     for thing in THINGS {
-        assert!(rt; is_made_at_last(rt.alloc(), thing)?, "{thing:?}");
+        assert!(rt; is_made_at_last(rt.alloc(), *thing)?, "{thing:?}");
     }
     Ok(())
 }

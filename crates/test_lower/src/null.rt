@@ -57,7 +57,7 @@ const OPENS: Effect = Effect::Opens {
 };
 
 /// Messages in turn over connection 3, and what each comes to.
-const MESSAGES: [(Over, Ask, Given); 12] = [
+const MESSAGES: &[(Over, Ask, Given)] = &[
     (Over::New(THREE), Ask::Open("name"), Err(Errno::ENOENT)),
     (Over::Existing(THREE), Ask::Open(""), Err(Errno::EINVAL)),
     (Over::Existing(THREE), Ask::Fstat, Err(Errno::ENOSYS)),
@@ -205,7 +205,7 @@ fn is_open_refused(rt: &impl Abort, alloc: Global, bench: &mut Bench) -> Result<
 fn what_is_written_is_gone(rt: HostRuntime) -> Result<(), Fail> {
     let mut bench = Bench::new(rt.alloc())?;
     assert!(rt; is_open_refused(&rt, rt.alloc(), &mut bench)?);
-    for (over, ask, given) in MESSAGES {
+    for &(over, ask, given) in MESSAGES {
         let wanted = match given {
             Ok((status, effect)) => Ok((Done::Reply { status, effect }, 0)),
             Err(error) => Err(error),
