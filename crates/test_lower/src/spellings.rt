@@ -7,60 +7,112 @@ use std::alloc::{AllocError, Global};
 use std::process::Abort;
 use std::test::Fail;
 
-/// A line each: bytes in hexadecimal digits, and what they mean: one of each type and subtype, the last and the first behind the last of
+/// Bytes in hexadecimal digits, and what they mean: one of each type and subtype, the last and the first behind the last of
 /// what fields may have, and what is no message.
-const SPELLINGS: &str = "\
-    00010100070000000500a401612f62 Open { flags: OFlags(5), mode: 420, rest: Rest { bytes: [97, 47, 98] } }\n\
-    000102000100000078 Stat { rest: Rest { bytes: [120] } }\n\
-    00010300020000006f6b Unlink { rest: Rest { bytes: [111, 107] } }\n\
-    00010400050000000200ed0164 Mknod { mode: 493, rest: Rest { bytes: [100] } }\n\
-    00010500060000000300612f6263 Rename { rests: Rests { bytes: [3, 0, 97, 47, 98, 99] } }\n\
-    00010500020000000000 Rename { rests: Rests { bytes: [0, 0] } }\n\
-    010100000400000003000000 Read { count: 3 }\n\
-    0201000003000000686900 Write { bytes: BorrowedBytes { bytes: [104, 105, 0] } }\n\
-    0301000000000000 Close\n\
-    04010000020000000500 Dup { old: Coid(5) }\n\
-    05010000080000000700000000000000 Lseek { whence: Set, offset: 7 }\n\
-    0501010008000000ffffffffffffffff Lseek { whence: Current, offset: -1 }\n\
-    05010200080000000001000000000000 Lseek { whence: End, offset: 256 }\n\
-    0601000000000000 Fstat\n\
-    0701000000000000 List { after: BorrowedBytes { bytes: [] } }\n\
-    070100000100000061 List { after: BorrowedBytes { bytes: [97] } }\n\
-    08010000020000008001 Chmod { mode: 384 }\n\
-    0901000006000000010203000000 Notify { action: Poll, conditions: Conds(1), code: 2, value: Bits32(3) }\n\
-    0901010006000000037fffffff0f Notify { action: PollArm, conditions: Conds(3), code: 127, value: Bits32(268435455) }\n\
-    0901020006000000020000010000 Notify { action: TranArm, conditions: Conds(2), code: 0, value: Bits32(256) }\n\
-    0a0100000a00000003050700000000000000 Notify { action: Poll, conditions: Conds(3), code: 5, value: Bits64(7) }\n\
-    0a0101000a000000017fffffffffffffff0f Notify { action: PollArm, conditions: Conds(1), code: 127, value: Bits64(1152921504606846975) }\n\
-    0a0102000a00000002000000000001000000 Notify { action: TranArm, conditions: Conds(2), code: 0, value: Bits64(4294967296) }\n\
-    010100000400000000100000 Read { count: 4096 }\n\
-    010100000400000001100000 Malformed\n\
-    04010000020000004200 Dup { old: Coid(66) }\n\
-    04010000020000004300 Malformed\n\
-    04010000020000000301 Malformed\n\
-    0801000002000000ff01 Chmod { mode: 511 }\n\
-    08010000020000000002 Malformed\n\
-    0901000006000000018000000000 Malformed\n\
-    0901000006000000010000000010 Malformed\n\
-    0901000006000000040000000000 Malformed\n\
-    0a0100000a00000001000000000000000010 Malformed\n\
-    0a01000006000000010203000000 Malformed\n\
-    090100000a00000003050700000000000000 Malformed\n\
-    00010100040000000400ff01 Malformed\n\
-    000101000400000081000000 Malformed\n\
-    00010400050000000100ed0164 Malformed\n\
-    0001050000000000 Malformed\n\
-    000105000100000001 Malformed\n\
-    000105000400000003006667 Malformed\n\
-    000105000500000002002e2e67 Malformed\n\
-    00010500050000000200662f67 Malformed\n\
-    0001050005000000010066672f Malformed\n\
-    0001020002000000782f Malformed\n\
-    00010200020000002e2e Malformed\n\
-    0701000003000000612f62 Malformed\n\
-    e703000000000000 Unknown\n\
-    0a01030000000000 Unknown\n\
-    0001060000000000 Unknown\n";
+const SPELLINGS: &[(&str, &str)] = &[
+    (
+        "00010100070000000500a401612f62",
+        "Open { flags: OFlags(5), mode: 420, rest: Rest { bytes: [97, 47, 98] } }",
+    ),
+    ("000102000100000078", "Stat { rest: Rest { bytes: [120] } }"),
+    (
+        "00010300020000006f6b",
+        "Unlink { rest: Rest { bytes: [111, 107] } }",
+    ),
+    (
+        "00010400050000000200ed0164",
+        "Mknod { mode: 493, rest: Rest { bytes: [100] } }",
+    ),
+    (
+        "00010500060000000300612f6263",
+        "Rename { rests: Rests { bytes: [3, 0, 97, 47, 98, 99] } }",
+    ),
+    (
+        "00010500020000000000",
+        "Rename { rests: Rests { bytes: [0, 0] } }",
+    ),
+    ("010100000400000003000000", "Read { count: 3 }"),
+    (
+        "0201000003000000686900",
+        "Write { bytes: BorrowedBytes { bytes: [104, 105, 0] } }",
+    ),
+    ("0301000000000000", "Close"),
+    ("04010000020000000500", "Dup { old: Coid(5) }"),
+    (
+        "05010000080000000700000000000000",
+        "Lseek { whence: Set, offset: 7 }",
+    ),
+    (
+        "0501010008000000ffffffffffffffff",
+        "Lseek { whence: Current, offset: -1 }",
+    ),
+    (
+        "05010200080000000001000000000000",
+        "Lseek { whence: End, offset: 256 }",
+    ),
+    ("0601000000000000", "Fstat"),
+    (
+        "0701000000000000",
+        "List { after: BorrowedBytes { bytes: [] } }",
+    ),
+    (
+        "070100000100000061",
+        "List { after: BorrowedBytes { bytes: [97] } }",
+    ),
+    ("08010000020000008001", "Chmod { mode: 384 }"),
+    (
+        "0901000006000000010203000000",
+        "Notify { action: Poll, conditions: Conds(1), code: 2, value: Bits32(3) }",
+    ),
+    (
+        "0901010006000000037fffffff0f",
+        "Notify { action: PollArm, conditions: Conds(3), code: 127, value: Bits32(268435455) }",
+    ),
+    (
+        "0901020006000000020000010000",
+        "Notify { action: TranArm, conditions: Conds(2), code: 0, value: Bits32(256) }",
+    ),
+    (
+        "0a0100000a00000003050700000000000000",
+        "Notify { action: Poll, conditions: Conds(3), code: 5, value: Bits64(7) }",
+    ),
+    (
+        "0a0101000a000000017fffffffffffffff0f",
+        "Notify { action: PollArm, conditions: Conds(1), code: 127, value: Bits64(1152921504606846975) }",
+    ),
+    (
+        "0a0102000a00000002000000000001000000",
+        "Notify { action: TranArm, conditions: Conds(2), code: 0, value: Bits64(4294967296) }",
+    ),
+    ("010100000400000000100000", "Read { count: 4096 }"),
+    ("010100000400000001100000", "Malformed"),
+    ("04010000020000004200", "Dup { old: Coid(66) }"),
+    ("04010000020000004300", "Malformed"),
+    ("04010000020000000301", "Malformed"),
+    ("0801000002000000ff01", "Chmod { mode: 511 }"),
+    ("08010000020000000002", "Malformed"),
+    ("0901000006000000018000000000", "Malformed"),
+    ("0901000006000000010000000010", "Malformed"),
+    ("0901000006000000040000000000", "Malformed"),
+    ("0a0100000a00000001000000000000000010", "Malformed"),
+    ("0a01000006000000010203000000", "Malformed"),
+    ("090100000a00000003050700000000000000", "Malformed"),
+    ("00010100040000000400ff01", "Malformed"),
+    ("000101000400000081000000", "Malformed"),
+    ("00010400050000000100ed0164", "Malformed"),
+    ("0001050000000000", "Malformed"),
+    ("000105000100000001", "Malformed"),
+    ("000105000400000003006667", "Malformed"),
+    ("000105000500000002002e2e67", "Malformed"),
+    ("00010500050000000200662f67", "Malformed"),
+    ("0001050005000000010066672f", "Malformed"),
+    ("0001020002000000782f", "Malformed"),
+    ("00010200020000002e2e", "Malformed"),
+    ("0701000003000000612f62", "Malformed"),
+    ("e703000000000000", "Unknown"),
+    ("0a01030000000000", "Unknown"),
+    ("0001060000000000", "Unknown"),
+];
 
 /// How many bytes the two paths of a rename have behind their mount, and whether they may have so many.
 const LENGTHS: &[(u16, u16, bool)] = &[
@@ -114,20 +166,19 @@ fn is_encoded_again(alloc: Global, parsed: &Parsed) -> Result<bool, NoMemory> {
     }
 }
 
-/// A line's digits, and what they mean.
-fn spelling(line: &str) -> (&str, &str) {
-    line.split_once(' ').unwrap_or((line, ""))
+/// All spellings. The prover reads a table once for each function that names it.
+fn spellings() -> &'static [(&'static str, &'static str)] {
+    SPELLINGS
 }
 
 #[test]
 fn messages_are_spelled_so(rt: HostRuntime) -> Result<(), Fail> {
-    for line in SPELLINGS.lines() {
-        let (digits, meaning) = spelling(line);
+    for (digits, meaning) in spellings() {
         let parsed = Parsed::read(MessageBytes::from_vec(from_hex(rt.alloc(), digits)?));
-        let is_meant = printed(rt.alloc(), &parsed)?.as_str() == meaning;
+        let is_meant = printed(rt.alloc(), &parsed)?.as_str() == *meaning;
         assert!(rt;
             is_meant && is_encoded_again(rt.alloc(), &parsed)?,
-            "{line}"
+            "{digits}"
         );
     }
     Ok(())
@@ -155,11 +206,11 @@ fn draw_out(bytes: &mut Vec<u8>, len: usize) -> Result<(), AllocError> {
     Ok(())
 }
 
-/// It is an error where this is not the first word of what bytes mean, or a message that they mean is not encoded to them.
+/// Asserts that this is the first word of what bytes mean, and that a message that they mean is encoded to them.
 fn mean(
     rt: &impl Abort,
     alloc: Global,
-    line: &str,
+    digits: &str,
     bytes: &[u8],
     word: &str,
 ) -> Result<(), NoMemory> {
@@ -168,7 +219,7 @@ fn mean(
     let len = bytes.len();
     assert!(rt;
         is_meant && is_encoded_again(alloc, &parsed)?,
-        "{len} bytes of {line}"
+        "{len} bytes of {digits}"
     );
     Ok(())
 }
@@ -176,23 +227,22 @@ fn mean(
 #[test]
 fn other_lengths_are_malformed(rt: HostRuntime) -> Result<(), Fail> {
     let alloc = rt.alloc();
-    for line in SPELLINGS.lines() {
-        let (digits, meaning) = spelling(line);
+    for (digits, meaning) in spellings() {
         let mut bytes = from_hex(alloc, digits)?;
         for end in 0..bytes.len() {
             mean(
                 &rt,
                 alloc,
-                line,
+                digits,
                 bytes.get(..end).unwrap_or(b""),
                 "Malformed",
             )?;
         }
         bytes.push(0)?;
-        mean(&rt, alloc, line, &bytes, "Malformed")?;
+        mean(&rt, alloc, digits, &bytes, "Malformed")?;
         for len in [bytes.len().saturating_sub(8), 4096, 4097, 4160, 4161] {
             draw_out(&mut bytes, len)?;
-            mean(&rt, alloc, line, &bytes, drawn_out(meaning, len))?;
+            mean(&rt, alloc, digits, &bytes, drawn_out(meaning, len))?;
         }
     }
     Ok(())
