@@ -1,5 +1,5 @@
 -- What is owed once a step was taken under the lock: whom to wake; and what a worker receives there.
-use Rattle.std.specs.Prelude.{◌≡◌, ◌==◌, ◌&&◌, ⊤, ℕ, Option, Some, None, Result, Ok, Err, not}
+use Rattle.std.specs.Prelude.{◌≡◌, ◌==◌, ◌&&◌, ⊤, ℕ, Option, Some, None, not}
 use Rattle.qx_base.specs.Memory.{FitInto, Leave, kept_beside}
 use Rattle.qx_types.specs.declared.names.Item.{Item}
 use Rattle.qx_types.specs.declared.names.Manager.{Manager}
