@@ -1,0 +1,5 @@
+pub mod Handles
+pub mod Nodes
+pub mod Numbers
+pub mod Queue
+pub mod Waits
