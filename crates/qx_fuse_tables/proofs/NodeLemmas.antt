@@ -3,7 +3,7 @@ use Rattle.std.proofs.Common.{◌≡◌, ◌∙◌, ℕ, ◌+◌, ◌<◌, ◌�
 use Rattle.std.specs.Prelude.{option_map}
 use Rattle.std.proofs.Math.ListN.{set}
 use Rattle.std.proofs.lemmas.List.{at_drop_all, at_drop_more}
-use Rattle.qx_isolation.specs.Rows.{row_at, with_row}
+use Rattle.qx_isolation.specs.Rows.{with_row}
 use Rattle.qx_rows.proofs.RowLemmas.{row_at-get_or, row_at-place}
 use Rattle.qx_fuse_tables.specs.declared.change.Node.{Node}
 use Rattle.qx_fuse_tables.specs.Handles.{HandleRows}

@@ -7,7 +7,7 @@ use Rattle.std.proofs.lemmas.List.Folds.{list_any-append}
 use Rattle.std.proofs.lemmas.List.Sums.{sum_by-cons}
 use Rattle.std.proofs.lemmas.Option.{none-some}
 use Rattle.qx_fuse_tables.specs.declared.waits.Waiting.{Waiting}
-use Rattle.qx_fuse_tables.specs.Waits.{ThreadsKept, WaitingList, free_count, is_busy, is_free, is_of, kept, first_free}
+use Rattle.qx_fuse_tables.specs.Waits.{ThreadsKept, WaitingList, free_count, is_free, is_of, kept, first_free}
 
 abbrev one_if : Bool → ℕ
 one_if passes = cond passes 1 0
